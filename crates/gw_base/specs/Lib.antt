@@ -1,0 +1,10 @@
+-- what a source and a sink in memory hold, and what their calls do
+pub mod Feed
+-- what a short name may hold
+pub mod Names
+-- when a count of faults rose, and what a refused call says of it
+pub mod Outside
+-- the random words
+pub mod Random
+-- what writing some of the bytes comes to
+pub mod Whole

@@ -1,0 +1,16 @@
+use Rattle.std.proofs.Common.{rules, ap, sym, ◌∙◌, ℕ}
+use Rattle.book_core.specs.Rows.{Rows}
+use Rattle.book_core.specs.Machine.{State}
+use Rattle.book_core.specs.History.{state_after}
+use Rattle.book_core.specs.Tables.{rows_of}
+use Rattle.book_core.proofs.Histories.{opened_at, state_after-nil}
+use Rattle.book_core.proofs.book.Book.start.Goals as goal
+
+pub invariant_of-result : goal.invariant_of-result
+invariant_of-result c = record {
+  stands = opened_at _ _ _ (c.new-2.ensures ∙ sym c.new.ensures) c.in_ok-with_capacity.ensures.items;
+  bytes = search rules;
+  within = search rules;
+  entries = search rules;
+  room = search rules;
+}

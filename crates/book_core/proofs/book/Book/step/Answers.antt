@@ -1,0 +1,22 @@
+use Rattle.std.proofs.Common.{arith, ap, sym, ◌∙◌, ◌≡◌, [], ◌∷◌, ◌++◌, true}
+use Rattle.std.proofs.lemmas.Grind.{common_steps}
+use Rattle.std.proofs.lemmas.List.Sums.{sum_by-append}
+use Rattle.book_core.proofs.Histories.{state_after-more}
+use Rattle.book_core.specs.Machine.{after}
+use Rattle.book_core.specs.History.{state_after, size}
+use Rattle.book_core.specs.Tables.{rows_of}
+use Rattle.book_core.specs.declared.events.Entry.{Entry}
+use Rattle.book_core.proofs.book.Book.step.Goals as goal
+
+pub invariant_of-self-2 : goal.invariant_of-self-2
+invariant_of-self-2 c =
+    let entry : Entry = record { seat = c.args.seat; event = c.args.event; kept = true } in
+    let items : c.push.new.self.items ≡ c.self.inside.history.items ++ entry ∷ [] = rw c.unwrap.ensures at c.push.ensures.items in
+    record {
+      stands = c.in-Ok.ensures.ok c.args.seat ∙ ap (λ s. after s entry) c.self.invariant.stands
+          ∙ sym (state_after-more (rows_of c.self.inside.opening) c.self.inside.history.items entry) ∙ ap (state_after (rows_of c.self.inside.opening)) (sym items);
+      bytes = rw items (grind (arith, common_steps, sum_by-append (λ (e : Entry). size e.event) c.self.inside.history.items (entry ∷ [])));
+      within = grind (arith, common_steps);
+      entries = grind (arith, common_steps);
+      room = grind (arith, common_steps);
+    }

@@ -1,0 +1,13 @@
+-- What the tables of the program hold.
+use Rattle.std.specs.Prelude.{ℕ}
+use Rattle.book_core.specs.Rows.{Rows}
+use Rattle.book_core.specs.Machine.{State}
+use Rattle.book_core.specs.declared.current.Current.{Current}
+use Rattle.book_core.specs.declared.tables.Tables.{Tables}
+
+abbrev pub rows_of : Tables → Rows
+rows_of tables = record { apis = tables.apis.items; stages = tables.stages.items }
+
+-- the state that stands
+abbrev pub standing : Current → State
+standing current = record { rows = rows_of current.tables; latest = current.latest }

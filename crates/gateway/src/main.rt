@@ -1,0 +1,34 @@
+//! The gateway's program.
+//!
+//! `main` makes the real input and output and hands them, with the words of the command line, to [`gateway_cli::run`],
+//! which does all that the program does. Its exit status is what `run` answers.
+#![tactic(auto)]
+
+use gateway_cli::{ReaderSource, WriterSink, run};
+use gw_base::Text;
+use std::alloc::Global;
+use std::env;
+use std::process::ExitCode;
+use std::rt::Env;
+
+// The words behind the program's name. Words that can't be read are answered as none, which are no command's.
+fn words_of(rt: &(impl Env + AllocGlobal), alloc: Global) -> Vec<Text> {
+    let mut words = Vec::new(alloc);
+    let Ok(args) = env::args(rt) else {
+        return words;
+    };
+    for word in args.skip(1) {
+        if words.push(Text::of(word)).is_err() {
+            return Vec::new(alloc);
+        }
+    }
+    words
+}
+
+fn main(rt: HostRuntime) -> ExitCode {
+    let alloc = rt.alloc();
+    let words = words_of(&rt, alloc);
+    let mut input = ReaderSource::new(rt.stdin());
+    let mut output = WriterSink::new(rt.stdout());
+    ExitCode::from(run(alloc, &words, &mut input, &mut output))
+}

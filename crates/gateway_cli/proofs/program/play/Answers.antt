@@ -1,0 +1,22 @@
+use Rattle.gateway_cli.specs.Play.{played}
+use Rattle.gateway_cli.specs.Top.{Answered}
+use Rattle.gateway_cli.proofs.Inputs.{of_any, of_longer, if_ok_of_longer, on_err_of}
+use Rattle.gateway_cli.proofs.Playing.{nothing}
+use Rattle.gateway_cli.proofs.program.play.Goals as goal
+
+pub returns-in-Err-TooLong-clause-answered : goal.returns-in-Err-TooLong-clause-answered
+returns-in-Err-TooLong-clause-answered g c =
+    if_ok_of_longer 67108864 (g.I.Source.left c.args.input.now) c.say_too_long.result
+    (λ script status. Answered (g.W.Sink.written c.args.output.now) (g.W.Sink.written c.say_too_long.new.output) (played script) status)
+    (c.in-Err-TooLong.ensures.too_long (cc c.in-Err-TooLong.field-0-is)) c.say_too_long.ensures.answered
+
+pub returns-in-Err-TooLong-clause-front : goal.returns-in-Err-TooLong-clause-front
+returns-in-Err-TooLong-clause-front g c =
+    on_err_of c.say_too_long.result _
+    (of_longer 67108864 (g.I.Source.left c.args.input.now) _ (c.in-Err-TooLong.ensures.too_long (cc c.in-Err-TooLong.field-0-is)) c.say_too_long.ensures.front)
+
+pub returns-in-Err-Fault-clause-front : goal.returns-in-Err-Fault-clause-front
+returns-in-Err-Fault-clause-front g c = of_any _ _ (λ script. nothing _ _)
+
+pub returns-in-Err-Memory-clause-front : goal.returns-in-Err-Memory-clause-front
+returns-in-Err-Memory-clause-front g c = of_any _ _ (λ script. nothing _ _)

@@ -1,0 +1,70 @@
+-- The lines that are printed.
+use Rattle.std.specs.Prelude.{ℕ, List, [], ◌∷◌, ◌++◌, codes, Option, Some, None}
+use Rattle.std.specs.Fmt.{decimal}
+use Rattle.std.specs.List.{concat}
+use Rattle.percent_encoding.specs.Percent.{percent_encode}
+use Rattle.vtl_reader.specs.declared.fault.TemplateFault.{TemplateFault}
+use Rattle.vtl_reader.specs.declared.fault.TemplateFault.TheVariants as template
+use Rattle.book_core.specs.declared.replies.Refusal.{Refusal}
+use Rattle.book_core.specs.declared.replies.Refusal.TheVariants.{BadName, NoApi, NoDeployment, Full}
+use Rattle.book_core.specs.declared.replies.Reply.{Reply}
+use Rattle.book_core.specs.declared.replies.Reply.TheVariants.{Entered, NoStage, Store, Left, Done, Deployed, Refused}
+use Rattle.gateway_cli.specs.Answers.{busy}
+use Rattle.gateway_cli.specs.declared.coding.TheConstants.{CODED}
+use Rattle.gateway_cli.specs.declared.records.LineFault.{LineFault}
+use Rattle.gateway_cli.specs.declared.records.LineFault.TheVariants.{BadRecord, NotBuilt, Template}
+use Rattle.gateway_cli.specs.declared.turns.Fullness.{Fullness}
+
+abbrev pub line_feed : List ℕ
+line_feed = 10 ∷ []
+
+-- bytes in a line: each outside 33 to 126, and `%`, is coded by `%` and two upper-case hexadecimal digits
+abbrev pub coded : List ℕ → List ℕ
+coded bytes = percent_encode CODED bytes
+
+abbrev pub refusal_name : Refusal → List ℕ
+refusal_name BadName = codes "BadName"
+refusal_name NoApi = codes "NoApi"
+refusal_name NoDeployment = codes "NoDeployment"
+refusal_name Full = codes "Full"
+
+-- the line of a command's reply
+abbrev pub reply_line : Reply → List ℕ
+reply_line Done = concat (codes "done" ∷ line_feed ∷ [])
+reply_line (Deployed number) = concat (codes "deployed " ∷ decimal number ∷ line_feed ∷ [])
+reply_line (Refused refusal) = concat (codes "refused " ∷ refusal_name refusal ∷ line_feed ∷ [])
+reply_line Store = concat (codes "store" ∷ line_feed ∷ [])
+reply_line NoStage = []
+reply_line (Entered view) = []
+reply_line (Left closing) = []
+
+-- a template's fault, with its place in brackets where it has one
+abbrev pub template_fault : TemplateFault → List ℕ
+template_fault template.TooLong = codes "TooLong"
+template_fault (template.NotBuilt at) = concat (codes "NotBuilt(" ∷ decimal at ∷ codes ")" ∷ [])
+template_fault template.Memory = codes "Memory"
+
+-- a line's fault and its place; an empty place is `~`
+abbrev pub line_fault : LineFault → List ℕ
+line_fault BadRecord = codes "BadRecord at ~"
+line_fault NotBuilt = codes "NotBuilt at ~"
+line_fault (Template fault) = concat (template_fault fault ∷ codes " at /text" ∷ [])
+
+-- the line that ends a play at a line of this number
+unfoldable pub refused_line : ℕ → LineFault → List ℕ
+refused_line number fault = concat (codes "refused line " ∷ decimal number ∷ codes " " ∷ line_fault fault ∷ line_feed ∷ [])
+
+-- the lines of a connection that was served to its end
+unfoldable pub closed_lines : List ℕ → List ℕ
+closed_lines bytes = concat (codes "answer " ∷ coded bytes ∷ line_feed ∷ codes "ended Closed" ∷ line_feed ∷ [])
+
+-- the line that ends a play where the session is full
+unfoldable pub full_line : Fullness → List ℕ
+full_line full = concat (codes "full " ∷ decimal full.entries ∷ codes " " ∷ decimal full.bytes ∷ line_feed ∷ [])
+
+-- the lines of a connection on which the session was full, and that line
+unfoldable pub full_lines : Fullness → List ℕ
+full_lines full = concat (
+    codes "answer " ∷ coded busy ∷ line_feed
+    ∷ codes "ended SessionFull(" ∷ decimal full.entries ∷ codes "," ∷ decimal full.bytes ∷ codes ")" ∷ line_feed
+    ∷ full_line full ∷ [])

@@ -1,0 +1,220 @@
+// What a record does to the book, and what it prints.
+ghost use Rattle.std.specs.Prelude.{◌≡◌, ◌^◌, ◌<◌, [], true, Ok, Err, Some, None, IfOk, MatchResult};
+ghost use Rattle.book_core.specs.History.{reply as reply_of};
+ghost use Rattle.book_core.specs.Rows.{no_rows};
+ghost use Rattle.vtl_reader.specs.Reading.{read_of};
+ghost use Rattle.gateway_cli.specs.Printed.{full_lines as full_lines_of, refused_line as refused_line_of};
+ghost use Rattle.gateway_cli.specs.Play.{taken as taken_of, commanded as commanded_of, left as left_of, posted as posted_of, put_text as put_text_of, done as done_of, turn as turn_of};
+
+use crate::answer::Answer;
+use crate::answers::{answer_to, spelled, status};
+use crate::fields::is_passed_over;
+use crate::printed::{closed_lines, full_line, full_lines, refused_line, reply_line};
+use crate::reading::record_in;
+use crate::records::{LineFault, Record};
+use crate::turns::{End, Fullness, Said};
+use book_core::{Api, Book, Command, Event, Reply, StepFault, Vars};
+use gw_base::{Memory, Seq, Shared, Text};
+use std::alloc::Global;
+use vtl_reader::TemplateFault;
+
+// Takes an event of the one seat, or tells that the history is full.
+fn taken(book: &mut Book, alloc: Global, event: Event) -> Result<Result<Reply, Fullness>, Memory>
+    requires { book.old.base.opening ≡ no_rows }
+    ensures told { IfOk result (λ r. MatchResult r
+        (λ reply. (reply ≡ reply_of no_rows book.old.history event true) × (taken_of book.old.base.limits book.old.history event ≡ Ok book.new.history))
+        (λ full. (taken_of book.old.base.limits book.old.history event ≡ Err full) × (book.new.history ≡ book.old.history))) }
+    ensures base { book.new.base ≡ book.old.base }
+{
+    match book.step(alloc, 0, event) {
+        Ok(reply) => Ok(Ok(reply)),
+        Err(StepFault::SessionFull { entries, bytes }) => Ok(Err(Fullness { entries, bytes })),
+        Err(StepFault::Memory) => Err(Memory),
+    }
+}
+
+// Carries out a command, and prints its reply.
+#[tactic(auto, unfolding(crate::specs::Play::commanded))]
+fn commanded(book: &mut Book, alloc: Global, moment: u64, command: Command) -> Result<Said, Memory>
+    requires { book.old.base.opening ≡ no_rows }
+    ensures does { IfOk result (λ said. commanded_of book.old.base.limits book.old.history moment command
+        ≡ record { history = book.new.history; text = said.text; ends = said.ends }) }
+    ensures base { book.new.base ≡ book.old.base }
+{
+    match taken(book, alloc, Event::Admin { moment, command })? {
+        Ok(reply) => Ok(Said {
+            text: reply_line(alloc, &reply)?,
+            ends: None,
+        }),
+        Err(full) => Ok(Said {
+            text: full_line(alloc, full)?,
+            ends: Some(End::Full),
+        }),
+    }
+}
+
+fn said_full(alloc: Global, full: Fullness) -> Result<Said, Memory>
+    ensures { IfOk result (λ said. said ≡ record { text = full_lines_of full; ends = Some End.Full }) }
+{
+    Ok(Said {
+        text: full_lines(alloc, full)?,
+        ends: Some(End::Full),
+    })
+}
+
+// Lets an answered call leave, and prints its answer.
+fn left(book: &mut Book, alloc: Global, answer: &Answer) -> Result<Said, Memory>
+    requires { book.old.base.opening ≡ no_rows }
+    ensures does { IfOk result (λ said. left_of book.old.base.limits book.old.history answer.now
+        ≡ record { history = book.new.history; text = said.text; ends = said.ends }) }
+    ensures base { book.new.base ≡ book.old.base }
+{
+    let bytes = spelled(alloc, answer)?;
+    let leave = Event::Leave {
+        status: status(answer.cause),
+        cause: answer.cause,
+    };
+    match taken(book, alloc, leave)? {
+        Ok(_) => Ok(Said {
+            text: closed_lines(alloc, bytes.as_str().as_bytes())?,
+            ends: None,
+        }),
+        Err(full) => said_full(alloc, full),
+    }
+}
+
+// Serves a call: its Enter, its answer and its Leave.
+#[tactic(auto, unfolding(crate::specs::Play::posted))]
+fn posted(book: &mut Book, alloc: Global, enter: Event, body: &str) -> Result<Said, Memory>
+    requires { book.old.base.opening ≡ no_rows }
+    ensures does { IfOk result (λ said. posted_of book.old.base.limits book.old.history enter body.now
+        ≡ record { history = book.new.history; text = said.text; ends = said.ends }) }
+    ensures base { book.new.base ≡ book.old.base }
+{
+    match taken(book, alloc, enter)? {
+        Ok(reply) => {
+            let answer = answer_to(alloc, &reply, body)?;
+            left(book, alloc, &answer)
+        }
+        Err(full) => said_full(alloc, full),
+    }
+}
+
+fn refused(alloc: Global, number: u64, fault: LineFault) -> Result<Said, Memory>
+    ensures { IfOk result (λ said. said ≡ record { text = refused_line_of number fault; ends = Some End.Refused }) }
+{
+    Ok(Said {
+        text: refused_line(alloc, number, fault)?,
+        ends: Some(End::Refused),
+    })
+}
+
+// Puts a text API, where its template is read.
+fn put_text(
+    book: &mut Book,
+    alloc: Global,
+    number: u64,
+    moment: u64,
+    api: Text,
+    template: &str,
+) -> Result<Said, Memory>
+    requires { book.old.base.opening ≡ no_rows }
+    ensures does { IfOk result (λ said. put_text_of book.old.base.limits number book.old.history moment api template.now (read_of template.now)
+        ≡ record { history = book.new.history; text = said.text; ends = said.ends }) }
+    ensures base { book.new.base ≡ book.old.base }
+{
+    match Api::text(alloc, template) {
+        Ok(definition) => {
+            let definition = Shared::new(alloc, definition)?;
+            commanded(book, alloc, moment, Command::PutApi { api, definition })
+        }
+        Err(TemplateFault::Memory) => Err(Memory),
+        Err(fault) => refused(alloc, number, LineFault::Template(fault)),
+    }
+}
+
+// Points a stage without variables to a deployment.
+fn put_stage(
+    book: &mut Book,
+    alloc: Global,
+    moment: u64,
+    api: Text,
+    stage: Text,
+    deployment: u32,
+) -> Result<Said, Memory>
+    requires { book.old.base.opening ≡ no_rows }
+    ensures does { IfOk result (λ said. commanded_of book.old.base.limits book.old.history moment (Command.PutStage api stage deployment (record { pairs = [] }))
+        ≡ record { history = book.new.history; text = said.text; ends = said.ends }) }
+    ensures base { book.new.base ≡ book.old.base }
+{
+    let variables = Shared::new(
+        alloc,
+        Vars {
+            pairs: Seq::new(alloc),
+        },
+    )?;
+    let command = Command::PutStage {
+        api,
+        stage,
+        deployment,
+        variables,
+    };
+    commanded(book, alloc, moment, command)
+}
+
+fn done(book: &mut Book, alloc: Global, number: u64, found: Record) -> Result<Said, Memory>
+    requires { book.old.base.opening ≡ no_rows }
+    ensures does { IfOk result (λ said. done_of book.old.base.limits number book.old.history found
+        ≡ record { history = book.new.history; text = said.text; ends = said.ends }) }
+    ensures base { book.new.base ≡ book.old.base }
+{
+    match found {
+        Record::PutText {
+            moment,
+            api,
+            template,
+        } => put_text(book, alloc, number, moment, api, template.as_str()),
+        Record::Deploy { moment, api } => commanded(book, alloc, moment, Command::Deploy { api }),
+        Record::PutStage {
+            moment,
+            api,
+            stage,
+            deployment,
+        } => put_stage(book, alloc, moment, api, stage, deployment),
+        Record::Post {
+            moment,
+            word,
+            api,
+            stage,
+            body,
+        } => {
+            let enter = Event::Enter {
+                moment,
+                word,
+                api,
+                stage,
+            };
+            posted(book, alloc, enter, body.as_str())
+        }
+    }
+}
+
+/// What the line of this number does, and what it prints.
+#[tactic(auto, unfolding(crate::specs::Play::turn))]
+pub fn play_line(book: &mut Book, alloc: Global, number: u64, line: &[u8]) -> Result<Said, Memory>
+    requires { book.old.base.opening ≡ no_rows }
+    ensures does { IfOk result (λ said. turn_of book.old.base.limits number book.old.history line.now
+        ≡ record { history = book.new.history; text = said.text; ends = said.ends }) }
+    ensures base { book.new.base ≡ book.old.base }
+{
+    if is_passed_over(line) {
+        return Ok(Said {
+            text: Text::of(String::new(alloc)),
+            ends: None,
+        });
+    }
+    match record_in(alloc, line)? {
+        Ok(found) => done(book, alloc, number, found),
+        Err(fault) => refused(alloc, number, fault),
+    }
+}

@@ -1,0 +1,147 @@
+// The lines that are printed.
+ghost use Rattle.std.specs.Prelude.{◌≡◌, ◌<◌, ◌^◌, IfOk};
+ghost use Rattle.gateway_cli.specs.Answers.{busy as busy_of};
+ghost use Rattle.gateway_cli.specs.Printed.{coded as coded_of, refusal_name as refusal_name_of, reply_line as reply_line_of, template_fault as template_fault_of, line_fault as line_fault_of, refused_line as refused_line_of, closed_lines as closed_lines_of, full_line as full_line_of, full_lines as full_lines_of};
+
+use crate::coding::CODED;
+use crate::joined::joined;
+use crate::records::LineFault;
+use crate::turns::Fullness;
+use book_core::{Refusal, Reply};
+use gw_base::{Memory, Text};
+use percent_encoding::percent_encode;
+use std::alloc::Global;
+use vtl_reader::TemplateFault;
+
+// The answer where the session is full.
+#[tactic(auto, unfolding(crate::specs::Answers::busy))]
+fn busy() -> &'static str
+    ensures { result.now ≡ busy_of }
+{
+    "HTTP/1.1 503 Service Unavailable\r\nconnection: close\r\ncontent-length: 0\r\n\r\n"
+}
+
+fn coded(alloc: Global, bytes: &[u8]) -> Result<Text, Memory>
+    ensures { IfOk result (λ text. text ≡ coded_of bytes.now) }
+{
+    let mut text = String::new(alloc);
+    percent_encode(bytes, CODED).append_to(&mut text)?;
+    Ok(Text::of(text))
+}
+
+fn refusal_name(refusal: Refusal) -> &'static str
+    ensures { result.now ≡ refusal_name_of refusal }
+{
+    match refusal {
+        Refusal::BadName => "BadName",
+        Refusal::NoApi => "NoApi",
+        Refusal::NoDeployment => "NoDeployment",
+        Refusal::Full => "Full",
+    }
+}
+
+/// The line of a command's reply.
+pub fn reply_line(alloc: Global, reply: &Reply) -> Result<Text, Memory>
+    ensures { IfOk result (λ line. line ≡ reply_line_of reply.now) }
+{
+    match reply {
+        Reply::Done => joined(alloc, &["done", "\n"]),
+        Reply::Deployed(number) => {
+            let number = number.to_string(alloc)?;
+            joined(alloc, &["deployed ", number.as_str(), "\n"])
+        }
+        Reply::Refused(refusal) => joined(alloc, &["refused ", refusal_name(*refusal), "\n"]),
+        Reply::Store => joined(alloc, &["store", "\n"]),
+        Reply::NoStage | Reply::Entered(_) | Reply::Left { .. } => Ok(Text::of(String::new(alloc))),
+    }
+}
+
+fn template_fault(alloc: Global, fault: TemplateFault) -> Result<Text, Memory>
+    ensures { IfOk result (λ text. text ≡ template_fault_of fault) }
+{
+    match fault {
+        TemplateFault::TooLong => Ok(Text::of(String::from_str(alloc, "TooLong")?)),
+        TemplateFault::NotBuilt(at) => {
+            let at = at.to_string(alloc)?;
+            joined(alloc, &["NotBuilt(", at.as_str(), ")"])
+        }
+        TemplateFault::Memory => Ok(Text::of(String::from_str(alloc, "Memory")?)),
+    }
+}
+
+fn line_fault(alloc: Global, fault: LineFault) -> Result<Text, Memory>
+    ensures { IfOk result (λ text. text ≡ line_fault_of fault) }
+{
+    match fault {
+        LineFault::BadRecord => Ok(Text::of(String::from_str(alloc, "BadRecord at ~")?)),
+        LineFault::NotBuilt => Ok(Text::of(String::from_str(alloc, "NotBuilt at ~")?)),
+        LineFault::Template(fault) => {
+            let fault = template_fault(alloc, fault)?;
+            joined(alloc, &[fault.as_str(), " at /text"])
+        }
+    }
+}
+
+/// The line that ends a play at the line of this number.
+#[tactic(auto, unfolding(crate::specs::Printed::refused_line))]
+pub fn refused_line(alloc: Global, number: u64, fault: LineFault) -> Result<Text, Memory>
+    ensures { IfOk result (λ line. line ≡ refused_line_of number fault) }
+{
+    let number = number.to_string(alloc)?;
+    let fault = line_fault(alloc, fault)?;
+    joined(
+        alloc,
+        &["refused line ", number.as_str(), " ", fault.as_str(), "\n"],
+    )
+}
+
+/// The lines of a connection that was served to its end.
+#[tactic(auto, unfolding(crate::specs::Printed::closed_lines))]
+pub fn closed_lines(alloc: Global, bytes: &[u8]) -> Result<Text, Memory>
+    ensures { IfOk result (λ lines. lines ≡ closed_lines_of bytes.now) }
+{
+    let bytes = coded(alloc, bytes)?;
+    joined(
+        alloc,
+        &["answer ", bytes.as_str(), "\n", "ended Closed", "\n"],
+    )
+}
+
+/// The line that ends a play where the session is full.
+#[tactic(auto, unfolding(crate::specs::Printed::full_line))]
+pub fn full_line(alloc: Global, full: Fullness) -> Result<Text, Memory>
+    ensures { IfOk result (λ line. line ≡ full_line_of full) }
+{
+    let entries = full.entries.to_string(alloc)?;
+    let bytes = full.bytes.to_string(alloc)?;
+    joined(
+        alloc,
+        &["full ", entries.as_str(), " ", bytes.as_str(), "\n"],
+    )
+}
+
+/// The lines of a connection on which the session was full, and the line that ends the play.
+#[tactic(auto, unfolding(crate::specs::Printed::full_lines))]
+pub fn full_lines(alloc: Global, full: Fullness) -> Result<Text, Memory>
+    ensures { IfOk result (λ lines. lines ≡ full_lines_of full) }
+{
+    let answer = coded(alloc, busy().as_bytes())?;
+    let entries = full.entries.to_string(alloc)?;
+    let bytes = full.bytes.to_string(alloc)?;
+    let last = full_line(alloc, full)?;
+    joined(
+        alloc,
+        &[
+            "answer ",
+            answer.as_str(),
+            "\n",
+            "ended SessionFull(",
+            entries.as_str(),
+            ",",
+            bytes.as_str(),
+            ")",
+            "\n",
+            last.as_str(),
+        ],
+    )
+}

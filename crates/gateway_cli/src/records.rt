@@ -1,0 +1,44 @@
+use gw_base::Text;
+use vtl_reader::TemplateFault;
+
+/// A record of a script, read from its line.
+#[derive(Drop)]
+pub enum Record {
+    /// `text M API TEMPLATE`: makes a text API, or gives an API this template.
+    PutText {
+        moment: u64,
+        api: Text,
+        template: Text,
+    },
+    /// `deploy M API`: takes a snapshot of an API.
+    Deploy {
+        moment: u64,
+        api: Text,
+    },
+    /// `stage M API STAGE DEPLOYMENT`: makes a stage, or points it to another deployment.
+    PutStage {
+        moment: u64,
+        api: Text,
+        stage: Text,
+        deployment: u32,
+    },
+    /// `post M W API STAGE BODY`: a call of `POST /API/STAGE` with this body.
+    Post {
+        moment: u64,
+        word: u64,
+        api: Text,
+        stage: Text,
+        body: Text,
+    },
+}
+
+/// Why a line of a script ends the play.
+#[derive(Clone, Copy, Debug, PartialEq, Eq)]
+pub enum LineFault {
+    /// The line breaks the form of its record.
+    BadRecord,
+    /// The record, or a field of it, belongs to a part that is not built.
+    NotBuilt,
+    /// The template is not read.
+    Template(TemplateFault),
+}

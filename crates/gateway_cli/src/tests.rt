@@ -1,0 +1,252 @@
+ghost use Rattle.std.specs.Prelude.{◌<◌};
+
+use crate::{play_within, run};
+use book_core::Limits;
+use gw_base::{MemSink, MemSource, Text};
+use std::alloc::Global;
+use std::test::Fail;
+
+const HELLO: &str =
+    "text 0 hello Hi%20$input.body!\ndeploy 0 hello\nstage 0 hello v1 1\npost 0 0 hello v1 Ann\n";
+
+const HELLO_SAID: &str =
+    "done\ndeployed 1\ndone\nanswer HTTP/1.1%20200%20OK%0D%0Acontent-type:%20text/plain%0D%0Acontent-length:%207%0D%0A%0D%0AHi%20Ann!\nended Closed\n";
+
+const UNKNOWN_STAGE: &str =
+    "answer HTTP/1.1%20403%20Forbidden%0D%0Acontent-type:%20application/json%0D%0Ax-gateway-cause:%20UNKNOWN_STAGE%0D%0Acontent-length:%2027%0D%0A%0D%0A{\"message\":\"Unknown%20stage\"}\nended Closed\n";
+
+fn words(alloc: Global, word: &str) -> Result<Vec<Text>, Fail> {
+    let mut words = Vec::new(alloc);
+    words.push(Text::of(String::from_str(alloc, word)?))?;
+    Ok(words)
+}
+
+fn source(alloc: Global, script: &str, step: usize, fails: &[u32]) -> Result<MemSource, Fail>
+    requires { 0 < step }
+{
+    let bytes = Vec::from_slice(alloc, script.as_bytes())?;
+    Ok(MemSource::new(bytes, step, Vec::from_slice(alloc, fails)?))
+}
+
+#[derive(Clone, Copy)]
+struct Row {
+    script: &'static str,
+    said: &'static str,
+    status: u8,
+}
+
+const ROWS: [Row; 12] = [
+    Row {
+        script: "",
+        said: "",
+        status: 0,
+    },
+    Row {
+        script: "# a remark\n\n#\n",
+        said: "",
+        status: 0,
+    },
+    Row {
+        script: "deploy 0 nope",
+        said: "refused NoApi\n",
+        status: 0,
+    },
+    Row {
+        script: "key 0 k v on\n",
+        said: "refused line 1 NotBuilt at ~\n",
+        status: 1,
+    },
+    Row {
+        script: "text 0 t $x\n",
+        said: "refused line 1 NotBuilt(0) at /text\n",
+        status: 1,
+    },
+    Row {
+        script: "bogus 1\n",
+        said: "refused line 1 BadRecord at ~\n",
+        status: 1,
+    },
+    Row {
+        script: "\ndeploy 0 a\ndeploy 0\ndeploy 0 a\n",
+        said: "refused NoApi\nrefused line 3 BadRecord at ~\n",
+        status: 1,
+    },
+    Row {
+        script: "text 0 a.b x\ntext 0 a x\nstage 0 a s 1\n%64eploy 0 a\nstage 0 a s 2\nstage 0 - s 1\n",
+        said: "refused BadName\ndone\nrefused NoDeployment\ndeployed 1\nrefused NoDeployment\nrefused BadName\n",
+        status: 0,
+    },
+    Row {
+        script: "stage 0 a s 1 x=y\n",
+        said: "refused line 1 NotBuilt at ~\n",
+        status: 1,
+    },
+    Row {
+        script: "stage 0 a s 1 xy\n",
+        said: "refused line 1 BadRecord at ~\n",
+        status: 1,
+    },
+    Row {
+        script: "deploy 18446744073709551615 a\ndeploy 18446744073709551616 a\n",
+        said: "refused NoApi\nrefused line 2 BadRecord at ~\n",
+        status: 1,
+    },
+    Row {
+        script: "deploy 0 %FF\n",
+        said: "refused line 1 BadRecord at ~\n",
+        status: 1,
+    },
+];
+
+#[test]
+fn scripts_are_played(rt: HostRuntime) -> Result<(), Fail> {
+    let alloc = rt.alloc();
+    let play = words(alloc, "play")?;
+    for row in &ROWS {
+        let mut input = source(alloc, row.script, 4096, &[])?;
+        let mut output = MemSink::new(alloc, Vec::new(alloc));
+        assert_eq!(rt;
+            run(alloc, &play, &mut input, &mut output),
+            row.status,
+            "at {}",
+            row.script
+        );
+        assert_eq!(rt; output.bytes(), row.said.as_bytes(), "at {}", row.script);
+    }
+    Ok(())
+}
+
+#[test]
+fn the_hello_script_is_played_in_pieces(rt: HostRuntime) -> Result<(), Fail> {
+    let alloc = rt.alloc();
+    let play = words(alloc, "play")?;
+    for step in [1, 2, 7, 4096] {
+        let mut input = source(alloc, HELLO, step, &[])?;
+        let mut output = MemSink::new(alloc, Vec::new(alloc));
+        assert_eq!(rt; run(alloc, &play, &mut input, &mut output), 0);
+        assert_eq!(rt; output.bytes(), HELLO_SAID.as_bytes());
+    }
+    Ok(())
+}
+
+#[test]
+fn an_unknown_stage_is_told(rt: HostRuntime) -> Result<(), Fail> {
+    let alloc = rt.alloc();
+    let mut script = String::from_str(alloc, HELLO)?;
+    script.push_str("post 0 0 hello v2 Ann\n")?;
+    let mut said = String::from_str(alloc, HELLO_SAID)?;
+    said.push_str(UNKNOWN_STAGE)?;
+    let mut input = source(alloc, script.as_str(), 4096, &[])?;
+    let mut output = MemSink::new(alloc, Vec::new(alloc));
+    assert_eq!(rt;
+        run(alloc, &words(alloc, "play")?, &mut input, &mut output),
+        0
+    );
+    assert_eq!(rt; output.bytes(), said.as_bytes());
+    Ok(())
+}
+
+#[test]
+fn words_of_no_command_are_told(rt: HostRuntime) -> Result<(), Fail> {
+    let alloc = rt.alloc();
+    let mut input = source(alloc, HELLO, 4096, &[])?;
+    let mut output = MemSink::new(alloc, Vec::new(alloc));
+    assert_eq!(rt;
+        run(alloc, &words(alloc, "sing")?, &mut input, &mut output),
+        2
+    );
+    assert_eq!(rt; run(alloc, &Vec::new(alloc), &mut input, &mut output), 2);
+    assert_eq!(rt; output.bytes(), b"usage\nusage\n".as_slice());
+    Ok(())
+}
+
+#[test]
+fn each_read_and_each_write_fails_once(rt: HostRuntime) -> Result<(), Fail> {
+    let alloc = rt.alloc();
+    let play = words(alloc, "play")?;
+    for call in 0..3 {
+        let mut input = source(alloc, HELLO, 60, &[call])?;
+        let mut output = MemSink::new(alloc, Vec::new(alloc));
+        assert_eq!(rt; run(alloc, &play, &mut input, &mut output), 3);
+        assert_eq!(rt; output.bytes(), b"fault input\n".as_slice());
+    }
+    let fronts = [
+        "",
+        "done\n",
+        "done\ndeployed 1\n",
+        "done\ndeployed 1\ndone\n",
+    ];
+    for (call, front) in fronts.iter().enumerate() {
+        let mut input = source(alloc, HELLO, 4096, &[])?;
+        let fails = Vec::from_slice(alloc, &[call as u32])?;
+        let mut output = MemSink::new(alloc, fails);
+        assert_eq!(rt; run(alloc, &play, &mut input, &mut output), 3);
+        let mut said = String::from_str(alloc, front)?;
+        said.push_str("fault output\n")?;
+        assert_eq!(rt; output.bytes(), said.as_bytes());
+    }
+    Ok(())
+}
+
+#[test]
+fn a_full_session_is_told(rt: HostRuntime) -> Result<(), Fail> {
+    let alloc = rt.alloc();
+    let busy =
+        "answer HTTP/1.1%20503%20Service%20Unavailable%0D%0Aconnection:%20close%0D%0Acontent-length:%200%0D%0A%0D%0A\n";
+    // The three commands make three entries of 5 + 15, 5 and 7 bytes; Enter makes one of 7.
+    let rows = [
+        (2, "done\ndeployed 1\nfull 2 25\n", ""),
+        (
+            3,
+            "done\ndeployed 1\ndone\n",
+            "ended SessionFull(3,32)\nfull 3 32\n",
+        ),
+        (
+            4,
+            "done\ndeployed 1\ndone\n",
+            "ended SessionFull(4,39)\nfull 4 39\n",
+        ),
+    ];
+    for (entries, front, end) in rows {
+        let limits = Limits {
+            entries,
+            bytes: 1000,
+        };
+        let mut output = MemSink::new(alloc, Vec::new(alloc));
+        assert_eq!(rt;
+            play_within(alloc, limits, HELLO.as_bytes(), &mut output),
+            Ok(4)
+        );
+        let mut said = String::from_str(alloc, front)?;
+        if !end.is_empty() {
+            said.push_str(busy)?;
+            said.push_str(end)?;
+        }
+        assert_eq!(rt; output.bytes(), said.as_bytes(), "at {entries}");
+    }
+    Ok(())
+}
+
+// A body of a megabyte, named eleven times, passes the most bytes of a text.
+#[test]
+fn a_stopped_render_is_told(rt: HostRuntime) -> Result<(), Fail> {
+    let alloc = rt.alloc();
+    let mut script = String::from_str(alloc, "text 0 a ")?;
+    for _ in 0..11 {
+        script.push_str("${input.body}")?;
+    }
+    script.push_str("\ndeploy 0 a\nstage 0 a s 1\npost 0 0 a s ")?;
+    for _ in 0..1_000_000 {
+        script.push_str("x")?;
+    }
+    let mut input = source(alloc, script.as_str(), 1_000_000, &[])?;
+    let mut output = MemSink::new(alloc, Vec::new(alloc));
+    assert_eq!(rt;
+        run(alloc, &words(alloc, "play")?, &mut input, &mut output),
+        0
+    );
+    let said =
+        "done\ndeployed 1\ndone\nanswer HTTP/1.1%20500%20Internal%20Server%20Error%0D%0Acontent-type:%20application/json%0D%0Ax-gateway-cause:%20API_CONFIGURATION_ERROR%0D%0Acontent-length:%2035%0D%0A%0D%0A{\"message\":\"Internal%20server%20error\"}\nended Closed\n";
+    assert_eq!(rt; output.bytes(), said.as_bytes());
+    Ok(())
+}

@@ -1,0 +1,24 @@
+use gw_base::Text;
+
+/// The numbers of a history that is full: its entries, and the bytes of its events' texts.
+#[derive(Clone, Copy, Debug, PartialEq, Eq)]
+pub struct Fullness {
+    pub entries: u32,
+    pub bytes: u64,
+}
+
+/// Why a play ends at a line.
+#[derive(Clone, Copy, Debug, PartialEq, Eq)]
+pub enum End {
+    /// The line was refused.
+    Refused,
+    /// The session is full.
+    Full,
+}
+
+/// What a line of a script prints, and why the play ends there, where it does.
+#[derive(Drop)]
+pub struct Said {
+    pub text: Text,
+    pub ends: Option<End>,
+}

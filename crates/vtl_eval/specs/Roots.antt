@@ -1,0 +1,49 @@
+-- What roots mean, and what was written below $context.
+use Rattle.std.specs.Prelude.{ℕ, Bool, true, false, ◌&&◌, List, [], ◌∷◌, codes, if◌then◌else◌}
+use Rattle.std.specs.Str.{bytes_eq}
+use Rattle.vtl_eval.specs.Val.{Val, text}
+use Rattle.vtl_eval.specs.declared.roots.Root.{Root}
+use Rattle.vtl_eval.specs.declared.roots.Root.TheVariants.{Input}
+
+-- a step of a reference, its arguments and indexes being evaluated
+pub data Stepped : Type 0 where
+  name : List ℕ → Stepped
+  place : Val → Stepped
+  method : List ℕ → List Val → Stepped
+
+-- the value of each path below a root, and which paths below $context may be written
+pub record Meanings : Type 0 where
+  pub value : Root → List Stepped → Val
+  pub writable : List (List ℕ) → Bool
+
+-- what was written: paths of names below $context, and their values
+abbrev pub Kept : Type 0
+Kept = List (List (List ℕ) × Val)
+
+abbrev pub same_path : List (List ℕ) → List (List ℕ) → Bool
+same_path [] [] = true
+same_path [] (b ∷ others) = false
+same_path (a ∷ rest) [] = false
+same_path (a ∷ rest) (b ∷ others) = bytes_eq a b && same_path rest others
+
+-- a write takes the place of the first to its path, or stands at the end
+abbrev pub put_path : Kept → List (List ℕ) → Val → Kept
+put_path [] path value = (path, value) ∷ []
+put_path (first ∷ rest) path value = if same_path first.0 path then (path, value) ∷ rest else first ∷ put_path rest path value
+
+-- what is kept after a write that was allowed, and after one that was not
+abbrev pub kept_after : Bool → Kept → List (List ℕ) → Val → Kept
+kept_after true kept path value = put_path kept path value
+kept_after false kept path value = kept
+
+-- the path of the body, `.body`
+abbrev pub body_path : List Stepped
+body_path = name (codes "body") ∷ []
+
+abbrev pub body_value : Meanings → Val
+body_value meanings = meanings.value Input body_path
+
+-- the value is a text
+abbrev pub IsText : Val → Type 0
+IsText (text t) = Unit {0}
+IsText value = ⊥

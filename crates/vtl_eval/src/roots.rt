@@ -1,0 +1,51 @@
+// What the references of a template stand for.
+ghost use Rattle.std.specs.Prelude.{◌≡◌, List, IfOk, OnErr, map};
+ghost use Rattle.vtl_eval.specs.Vals.{val_of, stepped_of, names_of};
+ghost use Rattle.vtl_eval.specs.Roots.{Meanings, Kept, kept_after, IsText, body_value};
+
+use crate::value::Value;
+use gw_base::Memory;
+use std::alloc::Global;
+use std::rc::{RcSlice, RcStr};
+
+/// The names below which the outside gives values: `$input`, `$context`, `$util` and `$stageVariables`.
+#[derive(Clone, Copy, Debug, PartialEq, Eq)]
+pub enum Root {
+    Input,
+    Context,
+    Util,
+    StageVariables,
+}
+
+/// A step of a reference: `.name`, `[index]` or `.name(arguments)`, with its values evaluated.
+#[derive(Drop)]
+pub enum Step {
+    Name(RcStr),
+    Index(Value),
+    Call(RcStr, RcSlice<Value>),
+}
+
+/// The values below the four roots, and the places below `$context` to which a template may write.
+pub trait Roots {
+    /// The value of each path below a root, and which paths may be written.
+    ghost meanings: { Self → Meanings };
+
+    /// What was written, by path; a further write to a path takes the place of its first.
+    ghost kept: { Self → Kept };
+
+    /// The value of a path below a root.
+    fn get(&mut self, alloc: Global, root: Root, path: &[Step]) -> Result<Value, Memory>
+        ensures value { IfOk result (λ v. val_of v ≡ (meanings self.old).value root (map stepped_of path.now)) }
+        ensures meanings { meanings self.new ≡ meanings self.old }
+        ensures kept { kept self.new ≡ kept self.old };
+
+    /// Writes a value to a path below `$context`, and answers whether the path may be written.
+    fn write(&mut self, alloc: Global, path: &[RcStr], value: &Value) -> Result<bool, Memory>
+        ensures answer { IfOk result (λ b. b ≡ (meanings self.old).writable (names_of path.now)) }
+        ensures meanings { meanings self.new ≡ meanings self.old }
+        ensures ok { IfOk result (λ b. kept self.new ≡ kept_after b (kept self.old) (names_of path.now) (val_of value.now)) }
+        ensures err { OnErr result (kept self.new ≡ kept self.old) };
+
+    /// The body of the message is a text.
+    ghost body_is_text: { (r : Self) → IsText (body_value (meanings r)) };
+}

@@ -1,8 +1,8 @@
 -- One entry more.
-use Rattle.std.proofs.Common.{◌≡◌, List, [], ◌∷◌, ◌++◌, reverse, refl, ap, sym, ◌∙◌}
+use Rattle.std.proofs.Common.{◌≡◌, List, [], ◌∷◌, ◌++◌, refl, ap, sym, ◌∙◌}
 use Rattle.std.proofs.lemmas.List.{reverse-append}
 use Rattle.book_core.specs.Rows.{Rows}
-use Rattle.book_core.specs.Machine.{State, opened, after}
+use Rattle.book_core.specs.Machine.{opened, after}
 use Rattle.book_core.specs.History.{state_of, state_after}
 use Rattle.book_core.specs.declared.events.Entry.{Entry}
 

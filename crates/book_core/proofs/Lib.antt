@@ -1,2 +1,4 @@
+pub mod Finding
 pub mod Histories
 pub mod Placing
+pub mod Viewing

@@ -1,6 +1,5 @@
 -- The tests of the three commands, in their order, and what each writes.
 use Rattle.std.specs.Prelude.{ℕ, ◌+◌, nat_lt, nat_le, Bool, true, false, not, ◌&&◌, ◌||◌, List, [], ◌∷◌, length, Option, Some, None, is_none, if◌then◌else◌}
-use Rattle.book_core.specs.Definition.{Definition}
 use Rattle.book_core.specs.Names.{is_name, are_variables}
 use Rattle.book_core.specs.Rows.{Rows, Written, puts_definition, adds_deployment, puts_stage, api_row, stage_row, deployment}
 use Rattle.book_core.specs.declared.rows.ApiRow.{ApiRow}

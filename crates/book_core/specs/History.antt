@@ -1,5 +1,5 @@
 -- Histories: their sizes and limits, and what stands after one.
-use Rattle.std.specs.Prelude.{◌≡◌, ℕ, ◌+◌, ◌-◌, ◌^◌, min, nat_lt, nat_le, Bool, ◌||◌, List, [], ◌∷◌, length, reverse, sum_by, is_some}
+use Rattle.std.specs.Prelude.{ℕ, ◌+◌, ◌-◌, ◌^◌, min, nat_lt, nat_le, Bool, ◌||◌, List, [], ◌∷◌, length, reverse, sum_by, is_some}
 use Rattle.book_core.specs.Rows.{Rows}
 use Rattle.book_core.specs.Machine.{State, opened, reply_at, written_by, told, after}
 use Rattle.book_core.specs.declared.events.Limits.{Limits}

@@ -8,6 +8,8 @@ pub mod History
 pub mod Machine
 -- names and variables
 pub mod Names
+-- how refusals and kinds are printed
+pub mod Printed
 -- the tables: their rows, searches, and what is written to them
 pub mod Rows
 -- what the tables of the program hold

@@ -1,9 +1,9 @@
 -- The tables: their rows, searches, and what is written to them.
-use Rattle.std.specs.Prelude.{ℕ, ◌+◌, ◌-◌, ◌==◌, Bool, true, false, ◌&&◌, ◌||◌, List, [], ◌∷◌, ◌++◌, length, find, slice_get, Option, Some, None, is_none, if◌then◌else◌}
-use Rattle.std.specs.Option.{option_map, option_and_then}
+use Rattle.std.specs.Prelude.{ℕ, ◌-◌, ◌==◌, Bool, ◌&&◌, ◌||◌, List, [], ◌∷◌, ◌++◌, find, slice_get, Option, None, is_none, if◌then◌else◌}
+use Rattle.std.specs.Option.{option_and_then}
 use Rattle.std.specs.Str.{bytes_eq}
 use Rattle.std.specs.Cmp.Lexicographic.{slice_cmp}
-use Rattle.std.specs.Ordering.{nat_cmp, is_gt, is_eq}
+use Rattle.std.specs.Ordering.{nat_cmp, is_gt}
 use Rattle.book_core.specs.Definition.{Definition}
 use Rattle.book_core.specs.declared.rows.ApiRow.{ApiRow}
 use Rattle.book_core.specs.declared.rows.StageRow.{StageRow}

@@ -1,5 +1,4 @@
 -- What the tables of the program hold.
-use Rattle.std.specs.Prelude.{ℕ}
 use Rattle.book_core.specs.Rows.{Rows}
 use Rattle.book_core.specs.Machine.{State}
 use Rattle.book_core.specs.declared.current.Current.{Current}

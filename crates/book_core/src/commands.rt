@@ -16,7 +16,9 @@ use std::alloc::Global;
 
 /// The most APIs, the most deployments of one, and the most stages.
 const MOST_APIS: usize = 256;
+
 const MOST_DEPLOYMENTS: usize = 1024;
+
 const MOST_STAGES: usize = 1024;
 
 /// The most variables of a stage.
@@ -109,7 +111,13 @@ fn put_stage(
     ensures err { OnErr result (rows_of tables.new ≡ rows_of tables.old) }
     ensures memory { OnErr result (takes_memory (commanded (rows_of tables.old) (Command.PutStage api.now stage.now deployment variables.now)).reply ≡ true) }
 {
-    if let Some(refusal) = stage_refusal(tables, api.as_str(), stage.as_str(), deployment, variables.value()) {
+    if let Some(refusal) = stage_refusal(
+        tables,
+        api.as_str(),
+        stage.as_str(),
+        deployment,
+        variables.value(),
+    ) {
         return Ok(Reply::Refused(refusal));
     }
     let row = StageRow {

@@ -23,7 +23,9 @@ pub enum Command {
         definition: Shared<Api>,
     },
     /// Takes a snapshot of an API's definition, under the next number from 1.
-    Deploy { api: Text },
+    Deploy {
+        api: Text,
+    },
     /// Makes a stage of an API, or points it to another deployment, and replaces its variables.
     PutStage {
         api: Text,
@@ -43,9 +45,15 @@ pub enum Event {
         stage: Text,
     },
     /// An administrator asks for a change.
-    Admin { moment: u64, command: Command },
+    Admin {
+        moment: u64,
+        command: Command,
+    },
     /// A request is answered with this status, and by a gateway response where a cause stands.
-    Leave { status: u16, cause: Option<Kind> },
+    Leave {
+        status: u16,
+        cause: Option<Kind>,
+    },
 }
 
 /// An event in its place in the history: which seat made it, and whether its change was kept.

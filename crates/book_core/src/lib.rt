@@ -30,18 +30,19 @@ mod commands;
 mod current;
 mod events;
 mod kind;
+mod laws;
 mod names;
 mod puts;
 mod replies;
 mod rows;
 mod sizes;
-
 mod tables;
 
 pub use api::Api;
 pub use book::{Book, StepFault};
 pub use events::{Command, Entry, Event, Limits, Vars};
 pub use kind::Kind;
+pub use laws::views_are_of_the_last_commands;
 pub use names::is_name;
 pub use replies::{Refusal, Reply, View};
 pub use rows::{ApiRow, StageRow};

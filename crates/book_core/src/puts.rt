@@ -88,8 +88,7 @@ fn stage_at(rows: &[StageRow], api: &str, stage: &str) -> Option<usize>
     ensures value { result ≡ position (is_stage api.now stage.now) rows.now }
     ensures bound { IfSome result (λ i. i < length rows.now) }
 {
-    rows.iter()
-        .position(|row| row.api.as_str() == api && row.stage.as_str() == stage)
+    rows.iter().position(|row| row.api.as_str() == api && row.stage.as_str() == stage)
 }
 
 fn stage_behind(row: &StageRow, api: &str, stage: &str) -> bool

@@ -17,7 +17,13 @@ pub enum Refusal {
     Full,
 }
 
+/// Prints its name, as `NoApi`.
 impl fmt::Display for Refusal {
+    ghost use Rattle.std.specs.Prelude.{Some};
+    ghost use Rattle.book_core.specs.Printed.{refusal_name};
+
+    ghost output = { λ refusal. Some (refusal_name refusal) };
+
     fn fmt<W: fmt::Write>(&self, f: &mut fmt::Formatter<W>) -> fmt::Result {
         f.write_str(match self {
             Refusal::BadName => "BadName",

@@ -30,8 +30,9 @@ fn command_size(command: &Command) -> u128
             variables,
             ..
         } => {
-            variables_size(variables.value().pairs.as_slice())
-                .saturating_add(api.len() as u128 + stage.len() as u128)
+            variables_size(variables.value().pairs.as_slice()).saturating_add(
+                api.len() as u128 + stage.len() as u128,
+            )
         }
     }
 }

@@ -53,9 +53,7 @@ impl Tables {
     pub fn stage(&self, api: &str, stage: &str) -> Option<&StageRow>
         ensures { option_copied result ≡ stage_row (rows_of self.now) api.now stage.now }
     {
-        self.stages
-            .iter()
-            .find(|row| row.api.as_str() == api && row.stage.as_str() == stage)
+        self.stages.iter().find(|row| row.api.as_str() == api && row.stage.as_str() == stage)
     }
 
     /// A deployment of an API, by its number from 1.

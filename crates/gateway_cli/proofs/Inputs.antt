@@ -1,11 +1,8 @@
 -- What holds of an input that is told, and of some input where none is told.
-use Rattle.std.proofs.Common.{◌≡◌, ℕ, zero, suc, ◌+◌, ◌<◌, List, [], ◌∷◌, ◌++◌, length, cond, true, Option, Some, None, IfSome, IfOk, OnErr, OnOk, Result, Ok, Err, refl, sym, ap, ◌∙◌, subst, arith, append-nil}
+use Rattle.std.proofs.Common.{◌≡◌, ℕ, zero, suc, ◌<◌, List, [], ◌∷◌, length, cond, Option, Some, None, IfSome, IfOk, OnErr, Result, Ok, Err, refl, sym, ap, arith}
 use borrow.Author.Tests.{lt-ltb}
-use Rattle.std.specs.Io.KnownBytes.{Appends}
-use Rattle.gw_base.specs.Whole.{AppendsFront}
-use Rattle.gateway_cli.specs.Coding.{lines_of}
-use Rattle.gateway_cli.specs.Play.{Output, played, played_within, script_limit, session_limits, too_long, outcome, is_play}
-use Rattle.gateway_cli.specs.Top.{OfInput, Answered}
+use Rattle.gateway_cli.specs.Play.{played, played_within, script_limit, session_limits, too_long}
+use Rattle.gateway_cli.specs.Top.{OfInput}
 
 -- what holds of every input
 pub of_any : (left : Option (List ℕ)) (P : List ℕ → Type 0) → ((input : List ℕ) → P input) → OfInput left P

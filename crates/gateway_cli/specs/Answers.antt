@@ -10,6 +10,7 @@ use Rattle.book_core.specs.declared.kind.Kind.{Kind}
 use Rattle.book_core.specs.declared.kind.Kind.TheVariants.{ApiConfigurationError, UnknownStage}
 use Rattle.book_core.specs.declared.replies.Reply.{Reply}
 use Rattle.book_core.specs.declared.replies.Reply.TheVariants.{Entered}
+use Rattle.book_core.specs.Printed.{kind_name}
 use Rattle.gateway_cli.specs.Seen.{body_meanings}
 use Rattle.gateway_cli.specs.declared.answer.Answer.{Answer}
 
@@ -28,11 +29,6 @@ phrase_of (Some UnknownStage) = codes "Forbidden"
 abbrev pub content_type_of : Option Kind → List ℕ
 content_type_of None = codes "text/plain"
 content_type_of (Some cause) = codes "application/json"
-
--- how a cause is told
-abbrev pub name_of : Kind → List ℕ
-name_of ApiConfigurationError = codes "API_CONFIGURATION_ERROR"
-name_of UnknownStage = codes "UNKNOWN_STAGE"
 
 abbrev pub message_of : Kind → List ℕ
 message_of ApiConfigurationError = codes "Internal server error"
@@ -65,7 +61,7 @@ crlf = 13 ∷ 10 ∷ []
 -- the field that tells the cause of a gateway response
 abbrev pub cause_line : Option Kind → List ℕ
 cause_line None = []
-cause_line (Some kind) = concat (codes "x-gateway-cause: " ∷ name_of kind ∷ crlf ∷ [])
+cause_line (Some kind) = concat (codes "x-gateway-cause: " ∷ kind_name kind ∷ crlf ∷ [])
 
 -- the status line of an answer
 unfoldable pub status_line : Option Kind → List ℕ

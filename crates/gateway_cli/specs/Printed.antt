@@ -1,12 +1,10 @@
 -- The lines that are printed.
-use Rattle.std.specs.Prelude.{ℕ, List, [], ◌∷◌, ◌++◌, codes, Option, Some, None}
+use Rattle.std.specs.Prelude.{ℕ, List, [], ◌∷◌, codes}
 use Rattle.std.specs.Fmt.{decimal}
 use Rattle.std.specs.List.{concat}
 use Rattle.percent_encoding.specs.Percent.{percent_encode}
-use Rattle.vtl_reader.specs.declared.fault.TemplateFault.{TemplateFault}
-use Rattle.vtl_reader.specs.declared.fault.TemplateFault.TheVariants as template
-use Rattle.book_core.specs.declared.replies.Refusal.{Refusal}
-use Rattle.book_core.specs.declared.replies.Refusal.TheVariants.{BadName, NoApi, NoDeployment, Full}
+use Rattle.vtl_reader.specs.Printed.{printed}
+use Rattle.book_core.specs.Printed.{refusal_name}
 use Rattle.book_core.specs.declared.replies.Reply.{Reply}
 use Rattle.book_core.specs.declared.replies.Reply.TheVariants.{Entered, NoStage, Store, Left, Done, Deployed, Refused}
 use Rattle.gateway_cli.specs.Answers.{busy}
@@ -22,12 +20,6 @@ line_feed = 10 ∷ []
 abbrev pub coded : List ℕ → List ℕ
 coded bytes = percent_encode CODED bytes
 
-abbrev pub refusal_name : Refusal → List ℕ
-refusal_name BadName = codes "BadName"
-refusal_name NoApi = codes "NoApi"
-refusal_name NoDeployment = codes "NoDeployment"
-refusal_name Full = codes "Full"
-
 -- the line of a command's reply
 abbrev pub reply_line : Reply → List ℕ
 reply_line Done = concat (codes "done" ∷ line_feed ∷ [])
@@ -38,17 +30,11 @@ reply_line NoStage = []
 reply_line (Entered view) = []
 reply_line (Left closing) = []
 
--- a template's fault, with its place in brackets where it has one
-abbrev pub template_fault : TemplateFault → List ℕ
-template_fault template.TooLong = codes "TooLong"
-template_fault (template.NotBuilt at) = concat (codes "NotBuilt(" ∷ decimal at ∷ codes ")" ∷ [])
-template_fault template.Memory = codes "Memory"
-
 -- a line's fault and its place; an empty place is `~`
 abbrev pub line_fault : LineFault → List ℕ
 line_fault BadRecord = codes "BadRecord at ~"
 line_fault NotBuilt = codes "NotBuilt at ~"
-line_fault (Template fault) = concat (template_fault fault ∷ codes " at /text" ∷ [])
+line_fault (Template fault) = concat (printed fault ∷ codes " at /text" ∷ [])
 
 -- the line that ends a play at a line of this number
 unfoldable pub refused_line : ℕ → LineFault → List ℕ

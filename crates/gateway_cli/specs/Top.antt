@@ -5,7 +5,7 @@ use Rattle.gw_base.specs.Outside.{Rose}
 use Rattle.gw_base.specs.Whole.{AppendsFront}
 use Rattle.gw_base.specs.declared.outside.WriteStop.{WriteStop}
 use Rattle.gw_base.specs.declared.outside.WriteStop.TheVariants as write
-use Rattle.gateway_cli.specs.Play.{Output, outcome}
+use Rattle.gateway_cli.specs.Play.{Output}
 use Rattle.gateway_cli.specs.Printed.{line_feed}
 use Rattle.gateway_cli.specs.declared.stopped.Stopped.{Stopped}
 use Rattle.gateway_cli.specs.declared.stopped.Stopped.TheVariants as stopped

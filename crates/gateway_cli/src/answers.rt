@@ -3,7 +3,7 @@ ghost use Rattle.std.specs.Prelude.{◌≡◌, ◌≢◌, Some, None, Ok, Err, I
 ghost use Rattle.vtl_eval.specs.Meaning.{rendering};
 ghost use Rattle.vtl_reader.specs.Reading.{items_of};
 ghost use Rattle.gateway_cli.specs.Seen.{body_meanings};
-ghost use Rattle.gateway_cli.specs.Answers.{status_of, phrase_of, content_type_of, name_of, message_of, message_body as message_body_of, gateway_answer as gateway_answer_of, text_answer as text_answer_of, answer_to as answer_to_reply, cause_line as cause_line_of, status_line as status_line_of, field_lines as field_lines_of, spelled as spelled_of, budget};
+ghost use Rattle.gateway_cli.specs.Answers.{status_of, phrase_of, content_type_of, message_of, message_body as message_body_of, gateway_answer as gateway_answer_of, text_answer as text_answer_of, answer_to as answer_to_reply, cause_line as cause_line_of, status_line as status_line_of, field_lines as field_lines_of, spelled as spelled_of, budget};
 
 use crate::answer::Answer;
 use crate::joined::joined;
@@ -44,15 +44,6 @@ fn content_type(cause: Option<Kind>) -> &'static str
     match cause {
         None => "text/plain",
         Some(_) => "application/json",
-    }
-}
-
-fn name(kind: Kind) -> &'static str
-    ensures { result.now ≡ name_of kind }
-{
-    match kind {
-        Kind::ApiConfigurationError => "API_CONFIGURATION_ERROR",
-        Kind::UnknownStage => "UNKNOWN_STAGE",
     }
 }
 
@@ -112,7 +103,10 @@ fn cause_line(alloc: Global, cause: Option<Kind>) -> Result<Text, Memory>
 {
     match cause {
         None => Ok(Text::of(String::new(alloc))),
-        Some(kind) => joined(alloc, &["x-gateway-cause: ", name(kind), "\r\n"]),
+        Some(kind) => {
+            let name = kind.to_string(alloc)?;
+            joined(alloc, &["x-gateway-cause: ", name.as_str(), "\r\n"])
+        }
     }
 }
 

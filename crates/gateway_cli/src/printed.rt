@@ -1,17 +1,16 @@
 // The lines that are printed.
 ghost use Rattle.std.specs.Prelude.{◌≡◌, ◌<◌, ◌^◌, IfOk};
 ghost use Rattle.gateway_cli.specs.Answers.{busy as busy_of};
-ghost use Rattle.gateway_cli.specs.Printed.{coded as coded_of, refusal_name as refusal_name_of, reply_line as reply_line_of, template_fault as template_fault_of, line_fault as line_fault_of, refused_line as refused_line_of, closed_lines as closed_lines_of, full_line as full_line_of, full_lines as full_lines_of};
+ghost use Rattle.gateway_cli.specs.Printed.{coded as coded_of, reply_line as reply_line_of, line_fault as line_fault_of, refused_line as refused_line_of, closed_lines as closed_lines_of, full_line as full_line_of, full_lines as full_lines_of};
 
 use crate::coding::CODED;
 use crate::joined::joined;
 use crate::records::LineFault;
 use crate::turns::Fullness;
-use book_core::{Refusal, Reply};
+use book_core::Reply;
 use gw_base::{Memory, Text};
 use percent_encoding::percent_encode;
 use std::alloc::Global;
-use vtl_reader::TemplateFault;
 
 // The answer where the session is full.
 #[tactic(auto, unfolding(crate::specs::Answers::busy))]
@@ -29,17 +28,6 @@ fn coded(alloc: Global, bytes: &[u8]) -> Result<Text, Memory>
     Ok(Text::of(text))
 }
 
-fn refusal_name(refusal: Refusal) -> &'static str
-    ensures { result.now ≡ refusal_name_of refusal }
-{
-    match refusal {
-        Refusal::BadName => "BadName",
-        Refusal::NoApi => "NoApi",
-        Refusal::NoDeployment => "NoDeployment",
-        Refusal::Full => "Full",
-    }
-}
-
 /// The line of a command's reply.
 pub fn reply_line(alloc: Global, reply: &Reply) -> Result<Text, Memory>
     ensures { IfOk result (λ line. line ≡ reply_line_of reply.now) }
@@ -50,22 +38,12 @@ pub fn reply_line(alloc: Global, reply: &Reply) -> Result<Text, Memory>
             let number = number.to_string(alloc)?;
             joined(alloc, &["deployed ", number.as_str(), "\n"])
         }
-        Reply::Refused(refusal) => joined(alloc, &["refused ", refusal_name(*refusal), "\n"]),
+        Reply::Refused(refusal) => {
+            let name = refusal.to_string(alloc)?;
+            joined(alloc, &["refused ", name.as_str(), "\n"])
+        }
         Reply::Store => joined(alloc, &["store", "\n"]),
         Reply::NoStage | Reply::Entered(_) | Reply::Left { .. } => Ok(Text::of(String::new(alloc))),
-    }
-}
-
-fn template_fault(alloc: Global, fault: TemplateFault) -> Result<Text, Memory>
-    ensures { IfOk result (λ text. text ≡ template_fault_of fault) }
-{
-    match fault {
-        TemplateFault::TooLong => Ok(Text::of(String::from_str(alloc, "TooLong")?)),
-        TemplateFault::NotBuilt(at) => {
-            let at = at.to_string(alloc)?;
-            joined(alloc, &["NotBuilt(", at.as_str(), ")"])
-        }
-        TemplateFault::Memory => Ok(Text::of(String::from_str(alloc, "Memory")?)),
     }
 }
 
@@ -76,7 +54,7 @@ fn line_fault(alloc: Global, fault: LineFault) -> Result<Text, Memory>
         LineFault::BadRecord => Ok(Text::of(String::from_str(alloc, "BadRecord at ~")?)),
         LineFault::NotBuilt => Ok(Text::of(String::from_str(alloc, "NotBuilt at ~")?)),
         LineFault::Template(fault) => {
-            let fault = template_fault(alloc, fault)?;
+            let fault = fault.to_string(alloc)?;
             joined(alloc, &[fault.as_str(), " at /text"])
         }
     }

@@ -1,8 +1,8 @@
 ghost use Rattle.std.specs.Prelude.{◌<◌};
 
 use crate::{play_within, run};
-use book_core::Limits;
-use gw_base::{MemSink, MemSource, Text};
+use book_core::{Book, Event, Kind, Limits, Reply, StepFault};
+use gw_base::{MemSink, MemSource, Sink, Source, Text};
 use std::alloc::Global;
 use std::test::Fail;
 
@@ -248,5 +248,56 @@ fn a_stopped_render_is_told(rt: HostRuntime) -> Result<(), Fail> {
     let said =
         "done\ndeployed 1\ndone\nanswer HTTP/1.1%20500%20Internal%20Server%20Error%0D%0Acontent-type:%20application/json%0D%0Ax-gateway-cause:%20API_CONFIGURATION_ERROR%0D%0Acontent-length:%2035%0D%0A%0D%0A{\"message\":\"Internal%20server%20error\"}\nended Closed\n";
     assert_eq!(rt; output.bytes(), said.as_bytes());
+    Ok(())
+}
+
+// A fault that was counted before the call is not told.
+#[test]
+fn an_old_fault_is_not_told(rt: HostRuntime) -> Result<(), Fail> {
+    let alloc = rt.alloc();
+    let mut input = source(alloc, HELLO, 4096, &[0])?;
+    let mut output = MemSink::new(alloc, Vec::from_slice(alloc, &[0])?);
+    assert!(rt; input.read(&mut [0; 1]).is_err());
+    assert!(rt; output.write(b"x").is_err());
+    assert_eq!(rt;
+        run(alloc, &words(alloc, "play")?, &mut input, &mut output),
+        0
+    );
+    assert_eq!(rt; output.bytes(), HELLO_SAID.as_bytes());
+    Ok(())
+}
+
+// With room for one entry, Enter is taken, and Leave is refused with the history's numbers.
+#[test]
+fn a_book_of_one_entry_is_full(rt: HostRuntime) -> Result<(), Fail> {
+    let alloc = rt.alloc();
+    let limits = Limits {
+        entries: 1,
+        bytes: 1000,
+    };
+    let mut book = Book::start(alloc, limits)?;
+    let enter = Event::Enter {
+        moment: 0,
+        word: 0,
+        api: Text::of(String::from_str(alloc, "hello")?),
+        stage: Text::of(String::from_str(alloc, "v1")?),
+    };
+    let entered = book.step(alloc, 0, enter);
+    assert!(rt; matches!(&entered, Ok(Reply::NoStage)));
+    let leave = Event::Leave {
+        status: 403,
+        cause: Some(Kind::UnknownStage),
+    };
+    let full = StepFault::SessionFull {
+        entries: 1,
+        bytes: 7,
+    };
+    match book.step(alloc, 0, leave) {
+        Err(fault) => assert_eq!(rt; fault, full),
+        Ok(_) => assert!(rt; false, "the book took a second entry"),
+    }
+    let (tables, history) = book.close();
+    assert_eq!(rt; tables.stages().len(), 0);
+    assert_eq!(rt; history.len(), 1);
     Ok(())
 }

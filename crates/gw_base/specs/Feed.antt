@@ -1,5 +1,5 @@
 -- What a source and a sink in memory hold, and what their calls do.
-use Rattle.std.specs.Prelude.{◌≡◌, ℕ, ◌+◌, ◌-◌, ◌^◌, ◌==◌, Bool, min, List, ◌++◌, length, drop}
+use Rattle.std.specs.Prelude.{ℕ, ◌+◌, ◌-◌, ◌^◌, ◌==◌, Bool, min, List, ◌++◌, drop}
 use Rattle.std.specs.List.{list_any}
 
 -- the bytes that are left, the most of them that a read gives, which calls fail, how many calls were made, and how many of them failed

@@ -91,7 +91,11 @@ impl Page {
     pub fn finish(self) -> Rendered
         ensures { result ≡ record { text = self.text; steps = self.nodes } }
     {
-        let Page { text, nodes, made: _ } = self;
+        let Page {
+            text,
+            nodes,
+            made: _,
+        } = self;
         Rendered {
             text: Text::of(text),
             steps: nodes,

@@ -25,7 +25,13 @@ pub enum Stop {
     Memory,
 }
 
+/// Prints its name, as `Steps`.
 impl fmt::Display for Stop {
+    ghost use Rattle.std.specs.Prelude.{Some};
+    ghost use Rattle.vtl_eval.specs.Printed.{stop_name};
+
+    ghost output = { λ stop. Some (stop_name stop) };
+
     fn fmt<W: fmt::Write>(&self, f: &mut fmt::Formatter<W>) -> fmt::Result {
         f.write_str(match self {
             Stop::Steps => "Steps",

@@ -1,4 +1,4 @@
-use Rattle.std.proofs.Common.{rules, sym}
+use Rattle.std.proofs.Common.{rules}
 use Rattle.book_core.specs.Rows.{is_stage, stage_behind}
 use Rattle.book_core.proofs.Placing.{put_there, put_new}
 use Rattle.book_core.proofs.puts.put_stage.Goals as goal

@@ -1,5 +1,4 @@
 use Rattle.std.proofs.Common.{◌≡◌, ◌≤◌, ◌+◌, length}
-use Rattle.book_core.specs.Rows.{no_rows}
 use Rattle.gateway_cli.specs.Coding.{lines_of}
 use Rattle.gateway_cli.specs.Play.{base_of, played_within}
 use Rattle.gateway_cli.proofs.Playing.{Playing}

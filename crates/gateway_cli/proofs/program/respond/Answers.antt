@@ -1,4 +1,4 @@
-use Rattle.std.proofs.Common.{◌≡◌, ◌∙◌, sym, false}
+use Rattle.std.proofs.Common.{◌≡◌, false}
 use Rattle.gateway_cli.specs.Play.{outcome, is_play}
 use Rattle.gateway_cli.specs.Top.{Answered}
 use Rattle.gateway_cli.proofs.Inputs.{of_any, if_ok_of_any, on_err_of}

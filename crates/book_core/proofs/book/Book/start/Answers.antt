@@ -1,9 +1,5 @@
-use Rattle.std.proofs.Common.{rules, ap, sym, ◌∙◌, ℕ}
-use Rattle.book_core.specs.Rows.{Rows}
-use Rattle.book_core.specs.Machine.{State}
-use Rattle.book_core.specs.History.{state_after}
-use Rattle.book_core.specs.Tables.{rows_of}
-use Rattle.book_core.proofs.Histories.{opened_at, state_after-nil}
+use Rattle.std.proofs.Common.{rules, sym, ◌∙◌}
+use Rattle.book_core.proofs.Histories.{opened_at}
 use Rattle.book_core.proofs.book.Book.start.Goals as goal
 
 pub invariant_of-result : goal.invariant_of-result

@@ -146,6 +146,27 @@ fn an_unknown_stage_is_told(rt: HostRuntime) -> Result<(), Fail> {
     Ok(())
 }
 
+// The example of the refusals, `examples/refusals.script`.
+#[test]
+fn the_example_of_refusals_is_played(rt: HostRuntime) -> Result<(), Fail> {
+    let alloc = rt.alloc();
+    let script =
+        "# What a script may print: replies, refusals and answers of the gateway itself.\ndeploy 0 nope\ntext 0 bad.name x\ntext 0 greet Dear%20${input.body},%20good%20morning.\nstage 0 greet v1 1\ndeploy 0 greet\nstage 0 greet v1 1\npost 0 0 greet v1 Ann\npost 0 0 greet v2 Ann\n";
+    let mut said = String::from_str(
+        alloc,
+        "refused NoApi\nrefused BadName\ndone\nrefused NoDeployment\ndeployed 1\ndone\nanswer HTTP/1.1%20200%20OK%0D%0Acontent-type:%20text/plain%0D%0Acontent-length:%2023%0D%0A%0D%0ADear%20Ann,%20good%20morning.\nended Closed\n",
+    )?;
+    said.push_str(UNKNOWN_STAGE)?;
+    let mut input = source(alloc, script, 4096, &[])?;
+    let mut output = MemSink::new(alloc, Vec::new(alloc));
+    assert_eq!(rt;
+        run(alloc, &words(alloc, "play")?, &mut input, &mut output),
+        0
+    );
+    assert_eq!(rt; output.bytes(), said.as_bytes());
+    Ok(())
+}
+
 #[test]
 fn words_of_no_command_are_told(rt: HostRuntime) -> Result<(), Fail> {
     let alloc = rt.alloc();

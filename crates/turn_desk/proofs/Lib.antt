@@ -1,0 +1,9 @@
+pub mod Calls
+pub mod Closing
+pub mod Joins
+pub mod Keeps
+pub mod Lanes
+pub mod Numbers
+pub mod Prefixes
+pub mod Shares
+pub mod Totals

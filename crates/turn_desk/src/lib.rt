@@ -58,7 +58,7 @@
 //! | step | the machine alone | |
 //! | give back | the slot | |
 //! | commit | adds 1 to word 2 after `Ok`, 0 after `Err` | one that has seen the machine's history |
-//! | serve next | adds 1 to word 1, and wakes the sleepers; the slot is home | at rest |
+//! | serve next | adds 1 to word 1, and wakes the sleepers where word 0 shows another ticket; the slot is home | at rest |
 //!
 //! The machine lies in the slot again before the commit. No other thread can tell: the slot is the seat's own until it
 //! serves the next ticket. At the commit the seat then sees the history of the machine that lies there.

@@ -88,7 +88,8 @@ fn commit<M: Machine>(table: &SharedTable<M>, token: &mut Token<M>, taken: bool)
     }
 }
 
-/// Puts the machine back into its slot, gives the turn to the next ticket, and wakes those who wait.
+/// Puts the machine back into its slot, gives the turn to the next ticket, and wakes those who wait, where anyone may.
+/// Who draws a ticket later looks later too, and finds the turn given.
 pub(crate) fn give_back<M: Machine>(
     table: &SharedTable<M>,
     token: &mut Token<M>,
@@ -105,6 +106,8 @@ pub(crate) fn give_back<M: Machine>(
     let nothing = table.exchange(token, MACHINE, Some(machine));
     let None = nothing else { unreachable!() };
     commit(table, token, taken);
-    table.fetch_add::<ServeNext>(token, SERVED, 1);
-    table.wake_all(SERVED);
+    let served = table.fetch_add::<ServeNext>(token, SERVED, 1);
+    if table.peek(DRAWN) != served.wrapping_add(1) {
+        table.wake_all(SERVED);
+    }
 }

@@ -8,7 +8,10 @@ use Rattle.json_subset.specs.Scan.{◌>>=◌, is_digit, place, word, after_digit
 use Rattle.json_subset.specs.Strings.{is_plain, run, past_run, hex, hex_as, hex_digit, four, unit_end, first_unit, low_unit, is_high, pair_char, Step, closed, adds, second_half, unicode, short, escape_as, escape, at_stop, on_step, text_from}
 use Rattle.json_subset.specs.Grammar as g
 use Rattle.json_subset.specs.Grammar.{begins, Digits, last_digit, one_digit, Whole, zero_alone, not_from_zero, is_point, Fraction, no_fraction, is_e, is_sign, Exponent, no_exponent, signed_exponent, Numeral, positive, negative, Unit16, four_digits, IsSurrogate, IsHigh, IsLow, Text, text_end, text_plain, text_short, text_unit, text_pair}
-use Rattle.json_subset.proofs.Choices.{ok_then, ok_map, ok_if, byte_is, byte_is_not, hex_ascii}
+use Rattle.json_subset.proofs.Leads.{Lead, one, ◌then◌}
+use Rattle.json_subset.proofs.Moved.{unit_moved}
+use Rattle.json_subset.proofs.Choices.{ok_then, ok_map, ok_if, byte_is, byte_is_not, hex_ascii, short_ascii}
+use Rattle.json_subset.proofs.Rests.{Ahead, here, past_byte, ahead_more, unit_ahead}
 
 -- digits, from the first on
 digits_read : (b : ℕ) (bs : List ℕ) → is_digit b ≡ true → Digits (b ∷ bs) (after_digits bs)
@@ -26,14 +29,14 @@ some_read n (b ∷ bs) = ok_if (λ rest. Digits (b ∷ bs) rest) (is_digit b) (O
 at_byte : (P : ℕ → Type 0) (b c : ℕ) → (b == c) ≡ true → P c → P b
 at_byte P b c e h = subst P (sym (byte_is b c e)) h
 
-whole_read : (n : ℕ) (bs : List ℕ) → IfOk (whole_part n bs) (λ rest. Whole bs rest)
+pub whole_read : (n : ℕ) (bs : List ℕ) → IfOk (whole_part n bs) (λ rest. Whole bs rest)
 whole_read n [] = tt
 whole_read n (b ∷ bs) =
     ok_if (λ rest. Whole (b ∷ bs) rest) (b == 48) (Ok bs) (some_digits n (b ∷ bs))
     (λ h. at_byte (λ z. Whole (z ∷ bs) bs) b 48 h (zero_alone bs))
     (λ h. ok_map (λ rest. Digits (b ∷ bs) rest) (λ rest. Whole (b ∷ bs) rest) (some_digits n (b ∷ bs)) (some_read n (b ∷ bs)) (λ rest d. not_from_zero b bs rest (byte_is_not b 48 h) d))
 
-fraction_read : (n : ℕ) (bs : List ℕ) → IfOk (fraction n bs) (λ rest. Fraction bs rest)
+pub fraction_read : (n : ℕ) (bs : List ℕ) → IfOk (fraction n bs) (λ rest. Fraction bs rest)
 fraction_read n [] = no_fraction [] refl
 fraction_read n (b ∷ bs) =
     ok_if (λ rest. Fraction (b ∷ bs) rest) (b == 46) (some_digits n bs) (Ok (b ∷ bs))
@@ -48,7 +51,7 @@ signed_read n e (s ∷ bs) h = go (is_sign s) refl
     go true k = ok_map (λ rest. Digits bs rest) (λ rest. Exponent (e ∷ s ∷ bs) rest) (some_digits n bs) (some_read n bs) (λ rest d. signed_exponent e s bs rest h k d)
     go false k = ok_map (λ rest. Digits (s ∷ bs) rest) (λ rest. Exponent (e ∷ s ∷ bs) rest) (some_digits n (s ∷ bs)) (some_read n (s ∷ bs)) (λ rest d. g.exponent e (s ∷ bs) rest h d)
 
-exponent_read : (n : ℕ) (bs : List ℕ) → IfOk (exponent n bs) (λ rest. Exponent bs rest)
+pub exponent_read : (n : ℕ) (bs : List ℕ) → IfOk (exponent n bs) (λ rest. Exponent bs rest)
 exponent_read n [] = no_exponent [] refl
 exponent_read n (b ∷ bs) =
     ok_if (λ rest. Exponent (b ∷ bs) rest) (is_e b) (some_digits n (unsigned_exponent bs)) (Ok (b ∷ bs)) (signed_read n b bs) (λ h. no_exponent (b ∷ bs) h)
@@ -68,10 +71,10 @@ number_read n (b ∷ bs) = go (b == 45) refl
     go false h = parts_read n (b ∷ bs) (b ∷ bs) (λ w f rest hw hf he. positive (b ∷ bs) w f rest hw hf he)
 
 -- a hexadecimal digit: what stood there
-abbrev Hex : ℕ → ℕ → List ℕ → ℕ × List ℕ → Type 0
+abbrev pub Hex : ℕ → ℕ → List ℕ → ℕ × List ℕ → Type 0
 Hex low high bs p = (b : ℕ) × (bs ≡ b ∷ p.1) × (hex b ≡ Some p.0) × (low ≤ p.0) × (p.0 ≤ high)
 
-hex_read : (n low high : ℕ) (bs : List ℕ) → IfOk (hex_digit n low high bs) (Hex low high bs)
+pub hex_read : (n low high : ℕ) (bs : List ℕ) → IfOk (hex_digit n low high bs) (Hex low high bs)
 hex_read n low high [] = tt
 hex_read n low high (b ∷ bs) = go (hex b) refl
   where
@@ -92,7 +95,7 @@ end_read n a b bs =
     (λ c hc. ok_then (Hex 0 15 c.1) (End a b bs) (hex_digit n 0 15 c.1) (λ d. Ok (four a b c.0 d.0, d.1)) (hex_read n 0 15 c.1)
     (λ d hd. (hc.0, hd.0, c.0, d.0, hc.1 ∙ ap (λ z. hc.0 ∷ z) hd.1, hc.2, hd.2, refl)))
 
-abbrev IsUnit : (ℕ → Type 0) → List ℕ → ℕ × List ℕ → Type 0
+abbrev pub IsUnit : (ℕ → Type 0) → List ℕ → ℕ × List ℕ → Type 0
 IsUnit P bs p = Unit16 bs p.0 p.1 × P p.0
 
 unit_from : (P : ℕ → Type 0) (w x : ℕ) (a b : ℕ) (bs cs : List ℕ) (p : ℕ × List ℕ) → bs ≡ a ∷ b ∷ cs → hex a ≡ Some w → hex b ≡ Some x → End w x cs p → ((y z : ℕ) → y < 16 → z < 16 → P (four w x y z)) → IsUnit P bs p
@@ -103,10 +106,10 @@ unit_from P w x a b bs cs p e ha hb k within =
     subst R (sym k.7) (subst Q (sym all) (four_digits a b k.0 k.1 w x k.2 k.3 p.1 ha hb k.5 k.6), within k.2 k.3 (hex_ascii k.0 k.2 k.5).1 (hex_ascii k.1 k.3 k.6).1)
 
 -- the unit is a high surrogate, or no surrogate at all
-abbrev First : ℕ → Type 0
+abbrev pub First : ℕ → Type 0
 First u = (is_high u ≡ true → IsHigh u) × (is_high u ≡ false → IsSurrogate u → ⊥)
 
-first_within : (w x y z : ℕ) → w ≤ 15 → x ≤ (if w == 13 then 11 else 15) → y < 16 → z < 16 → First (four w x y z)
+pub first_within : (w x y z : ℕ) → w ≤ 15 → x ≤ (if w == 13 then 11 else 15) → y < 16 → z < 16 → First (four w x y z)
 first_within w x y z h i j k = (high, other)
   where
     high : is_high (four w x y z) ≡ true → IsHigh (four w x y z)
@@ -115,29 +118,32 @@ first_within w x y z h i j k = (high, other)
     other : is_high (four w x y z) ≡ false → IsSurrogate (four w x y z) → ⊥
     other e s = grind (arith, nat_tests)
 
-first_read : (n : ℕ) (bs : List ℕ) → IfOk (first_unit n bs) (IsUnit First bs)
+pub first_read : (n : ℕ) (bs : List ℕ) → IfOk (first_unit n bs) (IsUnit First bs)
 first_read n bs =
     ok_then (Hex 0 15 bs) (IsUnit First bs) (hex_digit n 0 15 bs) (λ a. hex_digit n 0 (if a.0 == 13 then 11 else 15) a.1 >>= λ b. unit_end n a.0 b.0 b.1) (hex_read n 0 15 bs)
     (λ a ha. ok_then (Hex 0 (if a.0 == 13 then 11 else 15) a.1) (IsUnit First bs) (hex_digit n 0 (if a.0 == 13 then 11 else 15) a.1) (λ b. unit_end n a.0 b.0 b.1) (hex_read n 0 (if a.0 == 13 then 11 else 15) a.1)
     (λ b hb. ok_map (End a.0 b.0 b.1) (IsUnit First bs) (unit_end n a.0 b.0 b.1) (end_read n a.0 b.0 b.1)
     (λ p k. unit_from First a.0 b.0 ha.0 hb.0 bs b.1 p (ha.1 ∙ ap (λ z. ha.0 ∷ z) hb.1) ha.2 hb.2 k (λ y z i j. first_within a.0 b.0 y z ha.4 hb.4 i j))))
 
-low_within : (w x y z : ℕ) → 13 ≤ w → w ≤ 13 → 12 ≤ x → x ≤ 15 → y < 16 → z < 16 → IsLow (four w x y z)
+pub low_within : (w x y z : ℕ) → 13 ≤ w → w ≤ 13 → 12 ≤ x → x ≤ 15 → y < 16 → z < 16 → IsLow (four w x y z)
 low_within w x y z a b c d i j = (omega arith, omega arith)
 
-low_read : (n : ℕ) (bs : List ℕ) → IfOk (low_unit n bs) (IsUnit IsLow bs)
+pub low_read : (n : ℕ) (bs : List ℕ) → IfOk (low_unit n bs) (IsUnit IsLow bs)
 low_read n bs =
     ok_then (Hex 13 13 bs) (IsUnit IsLow bs) (hex_digit n 13 13 bs) (λ a. hex_digit n 12 15 a.1 >>= λ b. unit_end n a.0 b.0 b.1) (hex_read n 13 13 bs)
     (λ a ha. ok_then (Hex 12 15 a.1) (IsUnit IsLow bs) (hex_digit n 12 15 a.1) (λ b. unit_end n a.0 b.0 b.1) (hex_read n 12 15 a.1)
     (λ b hb. ok_map (End a.0 b.0 b.1) (IsUnit IsLow bs) (unit_end n a.0 b.0 b.1) (end_read n a.0 b.0 b.1)
     (λ p k. unit_from IsLow a.0 b.0 ha.0 hb.0 bs b.1 p (ha.1 ∙ ap (λ z. ha.0 ∷ z) hb.1) ha.2 hb.2 k (λ y z i j. low_within a.0 b.0 y z ha.3 ha.4 hb.3 hb.4 i j))))
 
--- what a step adds goes before the text of what follows
-abbrev Adds : List ℕ → Step → Type 0
+-- what a step adds goes before the text of what follows, whatever follows
+abbrev pub Adds : List ℕ → Step → Type 0
 Adds all (closed rest) = ⊥
-Adds all (adds u rest) = (t end : List ℕ) → Text rest t end → Text all (u ++ t) end
+Adds all (adds u rest) = (lead : Lead) × (all ≡ lead.put rest) × Ahead all rest × ((r t end : List ℕ) → Text r t end → Text (lead.put r) (u ++ t) end)
 
-word_u : (n : ℕ) (bs : List ℕ) → IfOk (word n (92 ∷ 117 ∷ []) bs) (λ rest. bs ≡ 92 ∷ 117 ∷ rest)
+behind_u : (bs rest : List ℕ) → Ahead bs rest → Ahead (92 ∷ 117 ∷ bs) rest
+behind_u bs rest p = past_byte 92 (117 ∷ bs) rest (omega arith) (past_byte 117 bs rest (omega arith) p)
+
+pub word_u : (n : ℕ) (bs : List ℕ) → IfOk (word n (92 ∷ 117 ∷ []) bs) (λ rest. bs ≡ 92 ∷ 117 ∷ rest)
 word_u n [] = tt
 word_u n (b ∷ bs) = ok_if (λ rest. b ∷ bs ≡ 92 ∷ 117 ∷ rest) (b == 92) (word n (117 ∷ []) bs) (Err (Syntax (place n (b ∷ bs)))) (λ h. inner bs (byte_is b 92 h)) (λ h. tt)
   where
@@ -149,14 +155,22 @@ second_read : (n u : ℕ) (bs more : List ℕ) → Unit16 bs u more → IsHigh u
 second_read n u bs more d high =
     ok_then (λ k. more ≡ 92 ∷ 117 ∷ k) (Adds (92 ∷ 117 ∷ bs)) (word n (92 ∷ 117 ∷ []) more) (λ k. low_unit n k >>= λ v. Ok (adds (encode_utf8 (pair_char u v.0)) v.1)) (word_u n more)
     (λ k e. ok_then (IsUnit IsLow k) (Adds (92 ∷ 117 ∷ bs)) (low_unit n k) (λ v. Ok (adds (encode_utf8 (pair_char u v.0)) v.1)) (low_read n k)
-    (λ v hv. λ t end rest. let P : List ℕ → Type 0 = λ z. Unit16 bs u z in text_pair u v.0 bs k v.1 t end (subst P e d) high hv.0 hv.1 rest))
+    (λ v hv.
+    let P : List ℕ → Type 0 = λ z. Unit16 bs u z in
+    let p = unit_moved (subst P e d) in
+    let q = unit_moved hv.0 in (
+      one 92 then one 117 then p.lead then one 92 then one 117 then q.lead,
+      ap (λ z. 92 ∷ 117 ∷ z) (p.joined ∙ ap (λ z. p.lead.put (92 ∷ 117 ∷ z)) q.joined),
+      behind_u bs v.1 (ahead_more (unit_ahead (subst P e d)) (behind_u k v.1 (unit_ahead hv.0))),
+      λ r t end rest. text_pair u v.0 (p.lead.put (92 ∷ 117 ∷ q.lead.put r)) (q.lead.put r) r t end (p.moved (92 ∷ 117 ∷ q.lead.put r)) high (q.moved r) hv.1 rest,
+    )))
 
 unicode_read : (n : ℕ) (bs : List ℕ) → IfOk (unicode n bs) (Adds (92 ∷ 117 ∷ bs))
 unicode_read n bs =
     ok_then (IsUnit First bs) (Adds (92 ∷ 117 ∷ bs)) (first_unit n bs) (λ u. if is_high u.0 then second_half n u.0 u.1 else Ok (adds (encode_utf8 u.0) u.1)) (first_read n bs)
     (λ u hu. ok_if (Adds (92 ∷ 117 ∷ bs)) (is_high u.0) (second_half n u.0 u.1) (Ok (adds (encode_utf8 u.0) u.1))
     (λ h. second_read n u.0 bs u.1 hu.0 (hu.1.0 h))
-    (λ h. λ t end d. text_unit u.0 bs u.1 t end hu.0 (hu.1.1 h) d))
+    (λ h. let p = unit_moved hu.0 in (one 92 then one 117 then p.lead, ap (λ z. 92 ∷ 117 ∷ z) p.joined, behind_u bs u.1 (unit_ahead hu.0), λ r t end d. text_unit u.0 (p.lead.put r) r t end (p.moved r) (hu.1.1 h) d)))
 
 escape_read : (n : ℕ) (bs : List ℕ) → IfOk (escape n bs) (Adds (92 ∷ bs))
 escape_read n [] = tt
@@ -167,18 +181,18 @@ escape_read n (b ∷ bs) =
   where
     go : (o : Option ℕ) → short b ≡ o → IfOk (escape_as n b bs o) (Adds (92 ∷ b ∷ bs))
     go None e = tt
-    go (Some c) e = λ t end d. text_short b c bs t end e d
+    go (Some c) e = (one 92 then one b, refl, past_byte 92 (b ∷ bs) bs (omega arith) (past_byte b bs bs (short_ascii b c e).0 (here bs)), λ r t end d. text_short b c r t end e d)
 
 -- behind plain bytes
-abbrev Stops : List ℕ → Step → Type 0
+abbrev pub Stops : List ℕ → Step → Type 0
 Stops bs (closed rest) = bs ≡ 34 ∷ rest
-Stops bs (adds u rest) = (t end : List ℕ) → Text rest t end → Text bs (u ++ t) end
+Stops bs (adds u rest) = (lead : Lead) × (bs ≡ lead.put rest) × Ahead bs rest × ((r t end : List ℕ) → Text r t end → Text (lead.put r) (u ++ t) end)
 
 stops_from_adds : (bs : List ℕ) (s : Step) → Adds bs s → Stops bs s
 stops_from_adds bs (closed rest) h = absurd h
 stops_from_adds bs (adds u rest) h = h
 
-stop_read : (n : ℕ) (bs : List ℕ) → IfOk (at_stop n bs) (Stops bs)
+pub stop_read : (n : ℕ) (bs : List ℕ) → IfOk (at_stop n bs) (Stops bs)
 stop_read n [] = tt
 stop_read n (b ∷ bs) =
     ok_if (Stops (b ∷ bs)) (b == 34) (Ok (closed bs)) (if b == 92 then escape n bs else Err (Syntax (place n (b ∷ bs))))
@@ -211,4 +225,4 @@ text_read n before (suc f) bs =
         (run bs ++ [], ap (λ z. before ++ z) (sym (append-nil (run bs))), plain_before bs [] rest (subst P (sym h) (text_end rest)))
     go more (adds u rest) h =
         ok_map (ReadText ((before ++ run bs) ++ u) rest) (ReadText before bs) (text_from n ((before ++ run bs) ++ u) f rest) (more ((before ++ run bs) ++ u) rest)
-        (λ p k. (run bs ++ (u ++ k.0), k.1 ∙ append_assoc (before ++ run bs) u k.0 ∙ append_assoc before (run bs) (u ++ k.0), plain_before bs (u ++ k.0) p.1 (h k.0 p.1 k.2)))
+        (λ p k. (run bs ++ (u ++ k.0), k.1 ∙ append_assoc (before ++ run bs) u k.0 ∙ append_assoc before (run bs) (u ++ k.0), plain_before bs (u ++ k.0) p.1 (let P : List ℕ → Type 0 = λ z. Text z (u ++ k.0) p.1 in subst P (sym h.1) (h.3 rest k.0 p.1 k.2))))

@@ -56,7 +56,7 @@ pub digits_less : {bs rest : List ℕ} → Digits bs rest → length rest < leng
 digits_less (last_digit b rest h k) = omega arith
 digits_less (one_digit b bs rest h d) = omega (arith, digits_less d)
 
-whole_ahead : {bs rest : List ℕ} → Whole bs rest → Ahead bs rest
+pub whole_ahead : {bs rest : List ℕ} → Whole bs rest → Ahead bs rest
 whole_ahead (zero_alone rest) = past_byte 48 rest rest (omega arith) (here rest)
 whole_ahead (not_from_zero b bs rest h d) = digits_ahead d
 
@@ -64,7 +64,7 @@ whole_less : {bs rest : List ℕ} → Whole bs rest → length rest < length bs
 whole_less (zero_alone rest) = omega arith
 whole_less (not_from_zero b bs rest h d) = digits_less d
 
-fraction_ahead : {bs rest : List ℕ} → Fraction bs rest → Ahead bs rest
+pub fraction_ahead : {bs rest : List ℕ} → Fraction bs rest → Ahead bs rest
 fraction_ahead (no_fraction bs h) = here bs
 fraction_ahead (g.fraction bs rest d) = past_byte 46 bs rest (omega arith) (digits_ahead d)
 
@@ -129,7 +129,7 @@ text_front (text_pair u v bs more behind t rest e h m l d) =
 ascii_scalar : (c : ℕ) → c < 128 → IsScalar c
 ascii_scalar c h = grind (arith, nat_tests)
 
-one_utf8 : (c : ℕ) → c < 128 → IsUtf8 (c ∷ [])
+pub one_utf8 : (c : ℕ) → c < 128 → IsUtf8 (c ∷ [])
 one_utf8 c h = let P : List ℕ → Type 0 = IsUtf8 in subst P (encode_ascii c h) (IsUtf8-encode c (ascii_scalar c h))
 
 -- the text and what follows it are cut between characters

@@ -73,7 +73,7 @@ scalar_formed n d (b ∷ bs) =
     (λ i. number_formed n d (b ∷ bs)))))
 
 -- what follows a part
-abbrev NextIs : ℕ → List ℕ → Next → Type 0
+abbrev pub NextIs : ℕ → List ℕ → Next → Type 0
 NextIs close bs (done rest) = after_white bs ≡ close ∷ rest
 NextIs close bs (more rest) = (cs : List ℕ) × (after_white bs ≡ 44 ∷ cs) × (rest ≡ after_white cs)
 
@@ -92,7 +92,7 @@ front_next : (close : ℕ) (bs : List ℕ) (s : Next) → FrontIs close (after_w
 front_next close bs (done rest) h = h
 front_next close bs (more rest) h = h
 
-next_is : (n close : ℕ) (bs : List ℕ) → IfOk (next n close bs) (NextIs close bs)
+pub next_is : (n close : ℕ) (bs : List ℕ) → IfOk (next n close bs) (NextIs close bs)
 next_is n close bs = ok_map (FrontIs close (after_white bs)) (NextIs close bs) (next n close bs) (front_is n close (after_white bs)) (front_next close bs)
 
 colon_front_is : (n : ℕ) (bs : List ℕ) → IfOk (colon_front n bs) (λ rest. (cs : List ℕ) × (bs ≡ 58 ∷ cs) × (rest ≡ after_white cs))
@@ -114,10 +114,10 @@ module _ (n d : ℕ) (inner : List ℕ → Read Tree) (holds : (bs : List ℕ) �
   abbrev pub Listed : List Tree → List ℕ → List Tree × List ℕ → Type 0
   Listed before bs p = (ts : List Tree) × (p.0 ≡ before ++ ts) × Items n bs (trees_of ts) p.1 × (trees_depth (trees_of ts) ≤ d) × AreDistinct (trees_of ts)
 
-  abbrev Itemed : List ℕ → Tree × Next → Type 0
+  abbrev pub Itemed : List ℕ → Tree × Next → Type 0
   Itemed bs s = (rest : List ℕ) × Valued n d bs (s.0, rest) × NextIs 93 rest s.1
 
-  item_holds : (bs : List ℕ) → IfOk (item n (inner bs)) (Itemed bs)
+  pub item_holds : (bs : List ℕ) → IfOk (item n (inner bs)) (Itemed bs)
   item_holds bs = ok_then (Valued n d bs) (Itemed bs) (inner bs) (λ v. with_next v.0 (next n 93 v.1)) (holds bs) (λ v h. go v h (next n 93 v.1) (next_is n 93 v.1))
     where
       go : (v : Tree × List ℕ) → Valued n d bs v → (r : Result Next JsonFault) → IfOk r (NextIs 93 v.1) → IfOk (with_next v.0 r) (Itemed bs)
@@ -149,16 +149,16 @@ module _ (n d : ℕ) (inner : List ℕ → Read Tree) (holds : (bs : List ℕ) �
   abbrev pub Paired : List (List ℕ × Tree) → List ℕ → List (List ℕ × Tree) × List ℕ → Type 0
   Paired before bs p = (ms : List (List ℕ × Tree)) × (p.0 ≡ before ++ ms) × Pairs n bs (members_of ms) p.1 × (members_depth (members_of ms) ≤ d) × AreDistinctMembers (members_of ms) × HasNewNames (names_of before) (members_of ms)
 
-  abbrev Labelled : (List ℕ → Bool) → List ℕ → List ℕ × List ℕ → Type 0
+  abbrev pub Labelled : (List ℕ → Bool) → List ℕ → List ℕ × List ℕ → Type 0
   Labelled taken bs p = (inside colon start : List ℕ) × (bs ≡ 34 ∷ inside) × Text inside p.0 colon × (after_white colon ≡ 58 ∷ start) × (p.1 ≡ after_white start) × (taken p.0 ≡ false)
 
-  abbrev NameIs : (List ℕ → Bool) → List ℕ → List ℕ × List ℕ → Type 0
+  abbrev pub NameIs : (List ℕ → Bool) → List ℕ → List ℕ × List ℕ → Type 0
   NameIs taken bs p = (inside : List ℕ) × (bs ≡ 34 ∷ inside) × Text inside p.0 p.1 × (taken p.0 ≡ false)
 
   abbrev hand : ℕ → List ℕ × List ℕ → Bool → Read (List ℕ)
   hand at r v = (if v then Err (Repeated at) else Ok r.0) >>= λ x. Ok (x, r.1)
 
-  name_is : (taken : List ℕ → Bool) (bs : List ℕ) → IfOk (name n taken bs) (NameIs taken bs)
+  pub name_is : (taken : List ℕ → Bool) (bs : List ℕ) → IfOk (name n taken bs) (NameIs taken bs)
   name_is taken [] = tt
   name_is taken (b ∷ bs) =
       let Q : List ℕ × List ℕ → Type 0 = NameIs taken (b ∷ bs) in
@@ -170,15 +170,15 @@ module _ (n d : ℕ) (inner : List ℕ → Read Tree) (holds : (bs : List ℕ) �
       free e r k true j = tt
       free e r k false j = let P : List ℕ → Type 0 = λ z. Text bs z r.1 in (bs, ap (λ z. z ∷ bs) (byte_is b 34 e), subst P (sym k.1) k.2, j)
 
-  label_is : (taken : List ℕ → Bool) (bs : List ℕ) → IfOk (label n taken bs) (Labelled taken bs)
+  pub label_is : (taken : List ℕ → Bool) (bs : List ℕ) → IfOk (label n taken bs) (Labelled taken bs)
   label_is taken bs =
       ok_then _ (Labelled taken bs) (name n taken bs) (λ x. colon n x.1 >>= λ c. Ok (x.0, c)) (name_is taken bs)
       (λ x k. ok_then _ (Labelled taken bs) (colon n x.1) (λ c. Ok (x.0, c)) (colon_front_is n (after_white x.1)) (λ c j. (k.0, x.1, j.0, k.1, k.2, j.1, j.2, k.3)))
 
-  abbrev PairIs : (List ℕ → Bool) → List ℕ → (List ℕ × Tree) × Next → Type 0
+  abbrev pub PairIs : (List ℕ → Bool) → List ℕ → (List ℕ × Tree) × Next → Type 0
   PairIs taken bs s = (start rest : List ℕ) × Labelled taken bs (s.0.0, start) × Valued n d start (s.0.1, rest) × NextIs 125 rest s.1
 
-  pair_holds : (taken : List ℕ → Bool) (bs : List ℕ) → IfOk (pair n inner taken bs) (PairIs taken bs)
+  pub pair_holds : (taken : List ℕ → Bool) (bs : List ℕ) → IfOk (pair n inner taken bs) (PairIs taken bs)
   pair_holds taken bs =
       ok_then (Labelled taken bs) (PairIs taken bs) (label n taken bs) (λ x. labelled n x.0 (inner x.1)) (label_is taken bs)
       (λ x k. ok_then (Valued n d x.1) (PairIs taken bs) (inner x.1) (λ v. with_next (x.0, v.0) (next n 125 v.1)) (holds x.1) (λ v h. go x k v h (next n 125 v.1) (next_is n 125 v.1)))

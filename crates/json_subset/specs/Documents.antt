@@ -1,7 +1,8 @@
 -- A document that was read, and its parts.
-use Rattle.std.specs.Prelude.{ℕ, zero, suc, ◌<◌, List, length, Option, Some, None, if◌then◌else◌, slice_range}
+use Rattle.std.specs.Prelude.{◌≡◌, ℕ, zero, suc, ◌<◌, List, length, Option, Some, None, if◌then◌else◌, slice_range}
 use Rattle.std.specs.Str.{IsUtf8, bytes_eq}
 use Rattle.json_subset.specs.Tree.{Tree, node, Form, null, bool, number, text, list, object, Trees, no_trees, tree, Members, no_members, member, whole, decimal, wide}
+use Rattle.json_subset.specs.Grammar.{Spells}
 use Rattle.json_subset.specs.Nodes.{AreSound, tree_of}
 use Rattle.json_subset.specs.declared.node.Node.{Node}
 use Rattle.json_subset.specs.declared.doc.Kind.{Kind}
@@ -27,9 +28,14 @@ pub record IsDocument (d : Document) : Type 0 where
   pub utf8 : IsUtf8 d.text
   pub sound : AreSound d.text d.nodes
   pub root : d.root < length d.nodes
+  pub spelled : Spells d.text (root_tree d)
 
 abbrev pub form : Tree → Form
 form (node first past f) = f
+
+-- the place of a value's first byte
+abbrev pub place : Tree → ℕ
+place (node first past f) = first
 
 -- the bytes of a value
 abbrev pub span : List ℕ → Tree → List ℕ
@@ -103,3 +109,10 @@ member_named (number k s) q = None
 member_named (text t) q = None
 member_named (list ts) q = None
 member_named (object ms) q = first_named ms q
+
+-- a value is within itself, and so are the items of a list and the values of an object's members that are within it
+pub data IsWithin : Tree → Tree → Type 0 where
+  itself : (v : Tree) → IsWithin v v
+  item_within : (u t v : Tree) (i : ℕ) → IsWithin t v → item_at (form t) i ≡ Some u → IsWithin u v
+  entry_within : (u t v : Tree) (i : ℕ) (x : List ℕ) → IsWithin t v → entry_at (form t) i ≡ Some (x, u) → IsWithin u v
+  member_within : (u t v : Tree) (q : List ℕ) → IsWithin t v → member_named (form t) q ≡ Some u → IsWithin u v

@@ -30,3 +30,7 @@ pub mod CompactView
 pub mod Numbered
 -- laws of the definitions
 pub mod Laws
+-- a tree without its places
+pub mod Bare
+-- how far bytes can still begin a document
+pub mod Prefixes

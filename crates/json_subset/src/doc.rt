@@ -1,8 +1,11 @@
 // A document that was read.
 ghost use Rattle.std.specs.Prelude.{◌≡◌, ◌<◌, length, IfOk, MatchOption, None, Some};
-ghost use Rattle.json_subset.specs.Nodes.{AreSound};
+ghost use Rattle.json_subset.specs.Bare.{IsSameBare};
+ghost use Rattle.json_subset.specs.Grammar.{Spells};
+ghost use Rattle.json_subset.specs.Nodes.{AreSound, tree_of};
+ghost use Rattle.json_subset.specs.Tree.{Tree};
 ghost use Rattle.std.specs.String.{string_bytes};
-ghost use Rattle.json_subset.specs.Documents.{part, root_tree, IsPart, form, span as span_of, kind as kind_of, decoded, item_at, entry_at, member_named};
+ghost use Rattle.json_subset.specs.Documents.{part, root_tree, IsPart, IsWithin, form, place as place_of, span as span_of, kind as kind_of, decoded, item_at, entry_at, member_named};
 ghost use Rattle.json_subset.specs.Compact.{compacted};
 
 use crate::compact::compact_text;
@@ -70,6 +73,7 @@ impl Doc {
     pub(crate) fn of(text: String, nodes: Vec<Node>, root: usize) -> Doc
         requires sound { AreSound (string_bytes text) nodes.items }
         requires root { root < length nodes.items }
+        requires spelled { Spells (string_bytes text) (tree_of (string_bytes text) nodes.items root) }
         ensures { result ≡ record { text = string_bytes text; nodes = nodes.items; root = root } }
     {
         Doc { text, nodes, root }
@@ -89,6 +93,14 @@ impl Doc {
         ensures { result ≡ kind_of (form (part self.now id)) }
     {
         parts::kind(self.text.as_str(), &self.nodes, id.index)
+    }
+
+    /// The place of the first byte of this part, counted from the start of the document.
+    pub fn place(&self, id: NodeId) -> usize
+        requires { IsPart self.now id }
+        ensures { result ≡ place_of (part self.now id) }
+    {
+        parts::place(self.text.as_str(), &self.nodes, id.index)
     }
 
     /// The source text of this part, from its first byte to its last.
@@ -140,10 +152,12 @@ impl Doc {
         }
     }
 
-    /// The source text of this part without the white space outside strings; linear in that text.
+    /// The source text of this part without the white space outside strings, which spells the same
+    /// tree but for places; linear in that text.
     pub fn compact(&self, alloc: Global, id: NodeId) -> Result<String, Memory>
         requires { IsPart self.now id }
-        ensures { IfOk result (λ s. string_bytes s ≡ compacted (span_of self.now.text (part self.now id))) }
+        ensures text { IfOk result (λ s. string_bytes s ≡ compacted (span_of self.now.text (part self.now id))) }
+        ensures spells { IfOk result (λ s. IsWithin (part self.now id) (root_tree self.now) → (u : Tree) × Spells (string_bytes s) u × IsSameBare (part self.now id) u) }
     {
         match compact_text(
             alloc,

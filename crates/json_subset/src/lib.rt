@@ -20,9 +20,12 @@
 //! | `[1,2]` and the byte FF | `NotUtf8(5)`: this fault comes before all others |
 //!
 //! What the contracts promise: `Json::read` answers the tree that the grammar spells, and only that tree (`spelled`,
-//! `only`), or the first fault in reading order (`gives`); want of memory alone has no cause. Each getter answers the
-//! part of that tree, and `None` exactly where there is no such part. `compact` is the text without the white
-//! space outside strings. The laws of the definitions are in `laws`.
+//! `only`), or the first fault in reading order (`gives`); want of memory alone has no cause. A syntax fault stands at
+//! the least place such that no document begins with the bytes up to and including it, or at the length where the
+//! input is the front of a document and ends too early; a limit is met before any syntax fault (`places`; faults are
+//! judged on the grammar without its rules on depth and repeated names). Each getter answers the part of that tree,
+//! and `None` exactly where there is no such part. `compact` is the text of a part without the white space outside
+//! strings, and spells that part but for places. The laws of the definitions are in `laws`.
 //!
 //! Left out: byte order marks, comments, and numbers as values (a number keeps its source text).
 #![tactic(auto)]

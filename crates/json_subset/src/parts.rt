@@ -3,7 +3,7 @@ ghost use Rattle.std.specs.Prelude.{◌≡◌, ◌<◌, length, MatchOption, Non
 ghost use Rattle.std.specs.Str.{IsUtf8};
 ghost use Rattle.json_subset.specs.Nodes.{tree_of, made, AreSound, IsSound};
 ghost use Rattle.json_subset.specs.Numbered.{number_named};
-ghost use Rattle.json_subset.specs.Documents.{form, span as span_of, kind as kind_of, decoded, item_at, entry_at, member_named};
+ghost use Rattle.json_subset.specs.Documents.{form, place as place_of, span as span_of, kind as kind_of, decoded, item_at, entry_at, member_named};
 
 use crate::doc::Kind;
 use crate::node::{Form, Node};
@@ -35,6 +35,15 @@ pub fn kind(text: &str, nodes: &[Node], k: usize) -> Kind
         Form::List(ids) => Kind::List(ids.len() as u32),
         Form::Object(members) => Kind::Object(members.len() as u32),
     }
+}
+
+/// The place of the first byte of a part.
+pub fn place(text: &str, nodes: &[Node], k: usize) -> usize
+    requires sound { AreSound text.now nodes.now }
+    requires stands { k < length nodes.now }
+    ensures { result ≡ place_of (tree_of text.now nodes.now k) }
+{
+    node_at(text, nodes, k).first
 }
 
 /// The source text of a part.

@@ -1,0 +1,8 @@
+use Rattle.std.proofs.Common.{◌≡◌, drop}
+use Rattle.json_subset.specs.Documents.{form, part}
+use Rattle.policy_core.specs.Replies.{first_of, items, statement_fault}
+use Rattle.policy_core.proofs.judge.each_statement_fault.Given as goal
+
+-- there is no fault so far
+abbrev pub invariant-loop-i : goal.invariant-loop-i
+invariant-loop-i l = first_of statement_fault (drop l.i (items (form (part l.doc l.node)))) ≡ first_of statement_fault (items (form (part l.doc l.node)))

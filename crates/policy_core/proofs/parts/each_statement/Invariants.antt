@@ -1,0 +1,8 @@
+use Rattle.std.proofs.Common.{◌≡◌, ◌++◌, drop, map}
+use Rattle.json_subset.specs.Documents.{form, part}
+use Rattle.policy_core.specs.Replies.{items, statement_of}
+use Rattle.policy_core.proofs.parts.each_statement.Given as goal
+
+-- those so far, and those that are left
+abbrev pub invariant-loop-i : goal.invariant-loop-i
+invariant-loop-i l = l.statements ++ map statement_of (drop l.i (items (form (part l.doc l.node)))) ≡ map statement_of (items (form (part l.doc l.node)))

@@ -1,11 +1,12 @@
 // A definition of an API.
 ghost use Rattle.std.specs.Prelude.{◌≡◌, ◌≢◌, ◌≤◌, true, length, Ok, Err, IsOk, IfOk, OnOk, IfErr};
-ghost use Rattle.vtl_reader.specs.Reading.{read_of};
-ghost use Rattle.vtl_reader.specs.declared.fault.TemplateFault.TheVariants.{Memory as no_memory};
+ghost use Rattle.vtl_grammar.specs.Templates.{read_of};
+ghost use Rattle.vtl_grammar.specs.declared.fault.TemplateFault.TheVariants.{Memory as no_memory};
 
 use std::alloc::Global;
 use std::marker::Model;
-use vtl_reader::{Template, TemplateFault};
+use vtl_grammar::TemplateFault;
+use vtl_reader::Template;
 
 /// A definition of an API. A contract sees it as its form and its source, which fix all its parts.
 #[derive(Drop)]

@@ -1,11 +1,12 @@
 -- What a template renders to, what it costs, and where it stops.
-use Rattle.std.specs.Prelude.{ℕ, ◌+◌, nat_lt, nat_le, List, [], ◌∷◌, ◌++◌, length, if◌then◌else◌, Result, Ok, Err}
-use Rattle.vtl_reader.specs.declared.items.Item.{Item}
-use Rattle.vtl_reader.specs.declared.items.Item.TheVariants.{Text, Body}
+use Rattle.std.specs.Prelude.{ℕ, ◌+◌, nat_lt, nat_le, List, [], ◌++◌, length, if◌then◌else◌, Result, Ok, Err}
+use Rattle.vtl_grammar.specs.Tree as tree
+use Rattle.vtl_grammar.specs.Tree.{Item, Items, no_items}
+use Rattle.vtl_grammar.specs.Uses.{is_plain}
 use Rattle.vtl_eval.specs.Val.{Val, text}
 use Rattle.vtl_eval.specs.Roots.{Meanings, body_value}
 use Rattle.vtl_eval.specs.declared.stop.Stop.{Stop}
-use Rattle.vtl_eval.specs.declared.stop.Stop.TheVariants.{Steps, Bytes}
+use Rattle.vtl_eval.specs.declared.stop.Stop.TheVariants.{Steps, Bytes, NotBuilt}
 use Rattle.vtl_eval.specs.declared.stop.Rendered.{Rendered}
 
 -- the text so far, the nodes that were evaluated, and the bytes of all texts made
@@ -55,20 +56,29 @@ text_in value = []
 abbrev pub body_of : Meanings → List ℕ
 body_of roots = text_in (body_value roots)
 
--- an item: text costs one node; a reference costs one, its value is a text made, and it is printed
+-- an item of a plain template: text costs one node; a reference costs one, its value is a text made, and it is printed
 abbrev pub item : ℕ → Meanings → Item → State → Outcome
-item budget roots (Text t) state = spend budget state >>= write t
-item budget roots Body state = spend budget state >>= make (length (body_of roots)) >>= write (body_of roots)
+item budget roots (tree.text t) state = spend budget state >>= write t
+item budget roots (tree.output source b ss) state = spend budget state >>= make (length (body_of roots)) >>= write (body_of roots)
+item budget roots tree.comment state = Ok state
+item budget roots (tree.set target e) state = Ok state
+item budget roots (tree.choose bs) state = Ok state
+item budget roots (tree.foreach x e is) state = Ok state
+item budget roots tree.break_ state = Ok state
+item budget roots tree.stop state = Ok state
+item budget roots (tree.define x ps is) state = Ok state
+item budget roots (tree.macro_call at x es) state = Ok state
+item budget roots tree.deep state = Ok state
 
 -- the items in order
-abbrev pub run : ℕ → Meanings → List Item → State → Outcome
-run budget roots [] state = Ok state
-run budget roots (i ∷ is) state = item budget roots i state >>= run budget roots is
+abbrev pub run : ℕ → Meanings → Items → State → Outcome
+run budget roots no_items state = Ok state
+run budget roots (tree.item i is) state = item budget roots i state >>= run budget roots is
 
 abbrev pub finished : Outcome → Result Rendered Stop
 finished (Ok state) = Ok (record { text = state.text; steps = state.nodes })
 finished (Err stop) = Err stop
 
--- what items render to over these roots
-unfoldable pub rendering : ℕ → Meanings → List Item → Result Rendered Stop
-rendering budget roots items = finished (run budget roots items begin)
+-- what items render to over these roots: those of a plain template alone; no other is built
+unfoldable pub rendering : ℕ → Meanings → Items → Result Rendered Stop
+rendering budget roots is = if is_plain is then finished (run budget roots is begin) else Err NotBuilt

@@ -1,9 +1,10 @@
 // A template over roots.
-ghost use Rattle.std.specs.Prelude.{◌≡◌, ◌≢◌, map, Ok, Err, IfOk, OnOk, IfErr, IfNone, IfSome};
-ghost use Rattle.vtl_reader.specs.Reading.{items_of};
+ghost use Rattle.std.specs.Prelude.{◌≡◌, ◌≢◌, ◌<◌, length, map, Ok, Err, IfOk, OnOk, IfErr, IfNone, IfSome};
+ghost use Rattle.vtl_grammar.specs.Templates.{tree_of};
+ghost use Rattle.vtl_reader.specs.Nodes.{item_of, items_made, AllBelow};
 ghost use Rattle.std.specs.Rc.{rc_str_bytes};
 ghost use Rattle.vtl_eval.specs.Val.{text};
-ghost use Rattle.vtl_eval.specs.Meaning.{rendering, run, item as item_of, text_in};
+ghost use Rattle.vtl_eval.specs.Meaning.{rendering, run, item as item_meaning, text_in};
 ghost use Rattle.vtl_eval.specs.Roots.{body_path, body_value, IsText};
 ghost use Rattle.vtl_eval.specs.Vals.{val_of, stepped_of};
 
@@ -13,7 +14,7 @@ use crate::stop::{Rendered, Stop};
 use crate::value::Value;
 use std::alloc::Global;
 use std::rc::RcStr;
-use vtl_reader::{Item, Template};
+use vtl_reader::{Arena, ItemNode, Template};
 
 // The path of the body below `$input`.
 fn path_of_body(alloc: Global) -> Result<Vec<Step>, Stop>
@@ -57,47 +58,64 @@ fn body_text<R: Roots>(alloc: Global, roots: &mut R, path: &[Step]) -> Result<Rc
     }
 }
 
+// The item with this number.
 fn render_item<R: Roots>(
     alloc: Global,
-    item: &Item,
+    arena: &Arena,
+    k: usize,
     path: &[Step],
     roots: &mut R,
     budget: u64,
     page: &mut Page,
 ) -> Result<(), Stop>
-    requires { map stepped_of path.now ≡ body_path }
-    ensures ok { OnOk result (item_of budget (R.meanings roots.old) item.now page.old ≡ Ok page.new) }
-    ensures stop { IfErr result (λ e. e ≢ Stop.Memory → item_of budget (R.meanings roots.old) item.now page.old ≡ Err e) }
+    requires path { map stepped_of path.now ≡ body_path }
+    requires stands { k < length arena.now.items }
+    ensures ok { OnOk result (item_meaning budget (R.meanings roots.old) (item_of arena.now k) page.old ≡ Ok page.new) }
+    ensures stop { IfErr result (λ e. e ≢ Stop.Memory → item_meaning budget (R.meanings roots.old) (item_of arena.now k) page.old ≡ Err e) }
     ensures meanings { R.meanings roots.new ≡ R.meanings roots.old }
     ensures kept { R.kept roots.new ≡ R.kept roots.old }
 {
-    page.spend(budget)?;
-    match item {
-        Item::Text(text) => page.write(text.as_str()),
-        Item::Body => {
+    match arena.item(k) {
+        ItemNode::Text(text) => {
+            page.spend(budget)?;
+            page.write(text.as_str())
+        }
+        ItemNode::Output(_, _, _) => {
+            page.spend(budget)?;
             let body = body_text(alloc, roots, path)?;
             page.make(body.len())?;
             page.write(body.as_str())
         }
+        ItemNode::Comment
+        | ItemNode::Set(_, _)
+        | ItemNode::If(_, _)
+        | ItemNode::ForEach(_, _, _)
+        | ItemNode::Break
+        | ItemNode::Stop
+        | ItemNode::Define(_, _, _) => Ok(()),
     }
 }
 
 fn render_items<R: Roots>(
     alloc: Global,
-    items: &[Item],
+    arena: &Arena,
+    items: &[usize],
     path: &[Step],
     roots: &mut R,
     budget: u64,
     page: &mut Page,
 ) -> Result<(), Stop>
-    requires { map stepped_of path.now ≡ body_path }
-    ensures ok { OnOk result (run budget (R.meanings roots.old) items.now page.old ≡ Ok page.new) }
-    ensures stop { IfErr result (λ e. e ≢ Stop.Memory → run budget (R.meanings roots.old) items.now page.old ≡ Err e) }
+    requires path { map stepped_of path.now ≡ body_path }
+    requires below { AllBelow (length arena.now.items) items.now }
+    ensures ok { OnOk result (run budget (R.meanings roots.old) (items_made (item_of arena.now) items.now) page.old ≡ Ok page.new) }
+    ensures stop { IfErr result (λ e. e ≢ Stop.Memory → run budget (R.meanings roots.old) (items_made (item_of arena.now) items.now) page.old ≡ Err e) }
     ensures meanings { R.meanings roots.new ≡ R.meanings roots.old }
     ensures kept { R.kept roots.new ≡ R.kept roots.old }
 {
-    for item in items {
-        render_item(alloc, item, path, roots, budget, page)?;
+    let mut rest = items;
+    while let [k, more @ ..] = rest {
+        render_item(alloc, arena, *k, path, roots, budget, page)?;
+        rest = more;
     }
     Ok(())
 }
@@ -110,15 +128,19 @@ pub fn render<R: Roots>(
     roots: &mut R,
     budget: u64,
 ) -> Result<Rendered, Stop>
-    ensures made { IfOk result (λ r. rendering budget (R.meanings roots.old) (items_of template.now) ≡ Ok r) }
-    ensures stop { IfErr result (λ e. e ≢ Stop.Memory → rendering budget (R.meanings roots.old) (items_of template.now) ≡ Err e) }
+    ensures made { IfOk result (λ r. rendering budget (R.meanings roots.old) (tree_of template.now) ≡ Ok r) }
+    ensures stop { IfErr result (λ e. e ≢ Stop.Memory → rendering budget (R.meanings roots.old) (tree_of template.now) ≡ Err e) }
 
     // The roots mean what they meant, and nothing is written.
     ensures meanings { R.meanings roots.new ≡ R.meanings roots.old }
     ensures kept { R.kept roots.new ≡ R.kept roots.old }
 {
+    if !template.plain() {
+        return Err(Stop::NotBuilt);
+    }
     let path = path_of_body(alloc)?;
     let mut page = Page::new(alloc);
-    render_items(alloc, template.items(), &path, roots, budget, &mut page)?;
+    let (arena, items) = template.parts();
+    render_items(alloc, arena, items, &path, roots, budget, &mut page)?;
     Ok(page.finish())
 }

@@ -21,6 +21,8 @@ pub enum Stop {
     Bytes,
     /// A macro was called inside too many others.
     Depth,
+    /// The template has more than text and references to the body, and no interpreter is built.
+    NotBuilt,
     /// Memory is wanting.
     Memory,
 }
@@ -37,6 +39,7 @@ impl fmt::Display for Stop {
             Stop::Steps => "Steps",
             Stop::Bytes => "Bytes",
             Stop::Depth => "Depth",
+            Stop::NotBuilt => "NotBuilt",
             Stop::Memory => "Memory",
         })
     }

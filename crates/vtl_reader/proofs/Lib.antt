@@ -1,7 +1,8 @@
-pub mod Complete
-pub mod Cuts
-mod Examples
-pub mod Faults
-pub mod Sound
-pub mod Steps
-pub mod Whole
+pub mod Bad
+pub mod Blocking
+pub mod Chains
+pub mod Gathering
+pub mod Ranks
+pub mod Running
+pub mod Simple
+pub mod Trees

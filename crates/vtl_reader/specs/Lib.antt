@@ -1,12 +1,8 @@
--- which texts are templates, and of which items
-pub mod Grammar
--- what holds of the grammar and of reading
-pub mod Laws
--- what the parts of the reader give
-pub mod Pieces
--- what is printed of a fault
-pub mod Printed
--- how a text is read
-pub mod Reading
--- how text and references are spelled
-pub mod Spelling
+-- which tree a node stands for
+pub mod Nodes
+-- what the reader's values say
+pub mod Views
+-- what stands around items, and what ends them
+pub mod Blocks
+-- the nodes that stand for a text
+pub mod Read

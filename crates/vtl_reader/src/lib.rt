@@ -1,46 +1,51 @@
 //! Reads a mapping template.
 //!
-//! A template is text in which references stand, as Apache Velocity 1.7 writes them (User Guide,
-//! "References" and "Formal Reference Notation"). Two references are built, both to the body of
-//! the request: `$input.body` and `${input.body}`. No directive, escape or other reference is.
+//! A template is text in which references and directives stand, as Apache Velocity 1.7 writes them (User Guide,
+//! "References", "Directives"). The whole language is read, but for macros. `docs/TEMPLATES.md` has it for people who
+//! write templates.
 //!
 //! ```text
 //! let template = Template::read(alloc, "Hi $input.body!")?;
-//! template.items()    // Text("Hi "), Body, Text("!")
 //! template.source()   // "Hi $input.body!"
+//! template.parts()    // the nodes, and the numbers of the items: a text, an output, a text
+//! template.simple()   // true: only text and references without calls and indexes
 //! ```
 //!
 //! | Text | What is read |
 //! |---|---|
 //! | the empty text | no item |
-//! | `Hi $input.body!` | text, body, text |
-//! | `${input.body}x` | body, text |
-//! | `$input.body$input.body` | body, body |
+//! | `Hi $input.body!` | text, reference, text |
+//! | `#if($a)b#{else}c#end` | an if with one branch, and what stands behind its else |
+//! | `# $ #x` | text |
 //!
 //! | Text | What refuses it |
 //! |---|---|
-//! | `$input.bodyx` | `NotBuilt(0)`: a longer name |
-//! | `$input.body.a` | `NotBuilt(0)`: a further step |
-//! | `a\$b` | `NotBuilt(1)`: an escape |
-//! | `x#if` | `NotBuilt(1)`: a directive |
+//! | `#if($a)` | `Unclosed(0)` |
+//! | `a#else` | `BadDirective(1)` |
+//! | `#set($x = 1.5)` | `BadExpression(11)` |
+//! | `$a.put(1)` | `UnsupportedMethod(3)` |
+//! | `a\$b` | `Escape(1)` |
+//! | `#macro(m)x#end` | `NotBuilt(0)` |
 //! | 307,201 bytes or more | `TooLong`, before all else |
 //!
-//! The grammar is the relation `IsTemplate` of `specs/Grammar.antt`, by cases on the text, and
-//! `read_of` of `specs/Reading.antt` reads a text byte by byte. [`Template::read`] promises that
-//! what it reads is a template of its items, that each template of at most [`LIMIT`] bytes is
-//! read unless there is no memory, and that each fault is told where it is. The functions of
-//! [`laws`] prove that grammar and reading agree, and that a text has one meaning at most.
+//! [`Template::read`] promises that what it reads has the tree that the definition `read_of` of `vtl_grammar` gives, and
+//! that each refusal is that definition's first fault with its place; want of memory alone is free. The nodes stand in
+//! an [`Arena`], the parts of each before it; `expr_of` and `item_of` of `specs/Nodes.antt` say which tree a number
+//! stands for. Recursion is no deeper than the 64 levels, and the time is linear in the text.
 #![tactic(auto)]
 
-mod fault;
+mod arena;
+mod blocks;
+mod error;
+mod exprs;
+mod heads;
 mod items;
-pub mod laws;
-mod reader;
+mod nodes;
 mod template;
+mod text;
 
-pub use fault::TemplateFault;
-pub use items::Item;
-pub use template::{LIMIT, Template};
-
-#[cfg(test)]
-mod tests;
+pub use arena::Arena;
+pub use nodes::{Branch, ExprNode, ItemNode, Link, Pair, Part, Step, Target};
+pub use template::{LIMIT, Template, is_body};
+pub use vtl_grammar::TemplateFault;
+pub use vtl_words::operators::Operator;

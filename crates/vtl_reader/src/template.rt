@@ -1,34 +1,146 @@
-ghost use Rattle.std.specs.Prelude.{◌≡◌, ◌≢◌, ◌<◌, ◌≤◌, ◌↔◌, ℕ, List, length, Ok, Err, IfOk, OnOk, IfErr, IsOk, IsErrOf, MatchResult};
-ghost use Rattle.vtl_reader.specs.declared.items.Item.{Item};
-ghost use Rattle.vtl_reader.specs.Grammar.{IsTemplate, IsRefusedAt};
-ghost use Rattle.vtl_reader.specs.Reading.{limit, read_of, items_of};
+ghost use Rattle.std.specs.Prelude.{◌≡◌, ◌≢◌, ◌<◌, ◌↔◌, ℕ, List, [], length, Ok, Err, IfOk, OnOk, IfErr, IsOk, IsErrOf, MatchResult};
+ghost use Rattle.vtl_grammar.specs.Tree.{Items};
+ghost use Rattle.vtl_grammar.specs.Grammar.{IsTemplate};
+ghost use Rattle.vtl_grammar.specs.Templates.{limit, read_of, tree_of, whole};
+ghost use Rattle.vtl_grammar.specs.Uses.{is_simple, is_plain};
+ghost use Rattle.vtl_reader.specs.Read.{are_members as are_members_of, is_simple_node as is_simple_node_of, is_plain_node as is_plain_node_of, is_body as is_body_of};
+ghost use Rattle.vtl_reader.specs.Nodes.{item_of, items_made, AllBelow};
+ghost use Rattle.vtl_reader.specs.Views.{Gives};
 
-use crate::fault::TemplateFault;
-use crate::items::Item;
-use crate::reader::read_items;
+use crate::arena::Arena;
+use crate::blocks::{Around, Place};
+use crate::error::{ReadError, placed};
+use crate::items::read_items;
+use crate::nodes::{ItemNode, Step};
 use gw_base::Text;
 use std::alloc::Global;
 use std::marker::Model;
+use vtl_grammar::TemplateFault;
+use vtl_words::macros::first_macro;
 
 /// The most bytes that a template may have.
 pub const LIMIT: usize = 307_200;
 
-/// A template that was read. A contract sees it as its source, which determines its items.
+/// The most levels that may be open.
+const LEVELS: u32 = 64;
+
+/// A template that was read. A contract sees it as its source, which determines its tree.
 #[derive(Drop)]
 pub struct Template {
     source: Text,
-    items: Vec<Item>,
+    arena: Arena,
+    items: Vec<usize>,
 }
 
 impl Model for Template {
-    ghost use Rattle.std.specs.Prelude.{◌≡◌, ℕ, List, Ok};
-    ghost use Rattle.vtl_reader.specs.Reading.{read_of};
+    ghost use Rattle.std.specs.Prelude.{ℕ, List};
+    ghost use Rattle.vtl_reader.specs.Read.{IsRead};
 
     ghost Value = { List ℕ };
 
-    ghost view = { λ template. template.source };
+    ghost view = { λ t. t.source };
 
-    ghost invariant = { λ template. read_of template.source ≡ Ok template.items.items };
+    ghost invariant = { λ t. IsRead t.source t.arena t.items.items };
+}
+
+// The items of a whole text, in which no macro is defined, or its first fault.
+fn read_whole(alloc: Global, bytes: &[u8]) -> Result<(Arena, Vec<usize>), ReadError>
+    ensures gives { Gives (λ p. items_made (item_of p.0) p.1.items) result (whole [] 64 bytes.now) }
+    ensures below { IfOk result (λ p. AllBelow (length p.0.items) p.1.items) }
+{
+    let mut arena = Arena::new(alloc);
+    let around = Around {
+        place: Place::Top,
+        looping: false,
+        params: &[],
+    };
+    match read_items(alloc, &mut arena, LEVELS, &around, Some(0), bytes) {
+        Ok((items, _)) => Ok((arena, items)),
+        Err(e) => Err(e),
+    }
+}
+
+// Whether the steps are names alone.
+#[tactic(auto, unfolding(crate::specs::Read::are_members))]
+fn are_members(steps: &[Step]) -> bool
+    ensures { result ≡ are_members_of steps.now }
+{
+    steps.iter().all(|step| matches!(step, Step::Member(_)))
+}
+
+// Text, or a reference without calls and indexes.
+#[tactic(auto, unfolding(crate::specs::Read::is_simple_node))]
+fn is_simple_node(node: &ItemNode) -> bool
+    ensures { result ≡ is_simple_node_of node.now }
+{
+    match node {
+        ItemNode::Text(_) => true,
+        ItemNode::Output(_, _, steps) => are_members(steps),
+        ItemNode::Comment
+        | ItemNode::Set(_, _)
+        | ItemNode::If(_, _)
+        | ItemNode::ForEach(_, _, _)
+        | ItemNode::Break
+        | ItemNode::Stop
+        | ItemNode::Define(_, _, _) => false,
+    }
+}
+
+// Text, or a reference to the body of the request.
+fn is_plain_node(node: &ItemNode) -> bool
+    ensures { result ≡ is_plain_node_of node.now }
+{
+    match node {
+        ItemNode::Text(_) => true,
+        ItemNode::Output(_, name, steps) => is_body(name.as_str().as_bytes(), steps),
+        ItemNode::Comment
+        | ItemNode::Set(_, _)
+        | ItemNode::If(_, _)
+        | ItemNode::ForEach(_, _, _)
+        | ItemNode::Break
+        | ItemNode::Stop
+        | ItemNode::Define(_, _, _) => false,
+    }
+}
+
+/// Whether a reference of this name with these steps is `input.body`.
+pub fn is_body(name: &[u8], steps: &[Step]) -> bool
+    ensures { result ≡ is_body_of name.now steps.now }
+{
+    match steps {
+        [Step::Member(step)] => name == b"input".as_slice() && step.as_str() == "body",
+        _ => false,
+    }
+}
+
+#[tactic(auto, using(crate::proofs::Simple::simple_made))]
+fn are_simple(arena: &Arena, items: &[usize]) -> bool
+    requires below { AllBelow (length arena.now.items) items.now }
+    ensures { result ≡ is_simple (items_made (item_of arena.now) items.now) }
+{
+    let mut n = 0;
+    while n < items.len() {
+        if !is_simple_node(arena.item(items[n])) {
+            return false;
+        }
+        n += 1;
+    }
+    true
+}
+
+#[tactic(auto, using(crate::proofs::Simple::plain_made))]
+fn are_plain(arena: &Arena, items: &[usize]) -> bool
+    requires below { AllBelow (length arena.now.items) items.now }
+    ensures { result ≡ is_plain (items_made (item_of arena.now) items.now) }
+{
+    let mut rest = items;
+    while let [k, more @ ..] = rest {
+        if !is_plain_node(arena.item(*k)) {
+            return false;
+        }
+        rest = more;
+    }
+    true
 }
 
 impl Template {
@@ -36,32 +148,38 @@ impl Template {
     ///
     /// # Errors
     ///
-    /// - [`TemplateFault::TooLong`], before all else, where the text has more than [`LIMIT`] bytes.
-    /// - [`TemplateFault::NotBuilt`] at the first byte that is `#` or `\`, or a `$` that begins no
-    ///   reference.
-    /// - [`TemplateFault::Memory`] where there is no memory for the template.
-    #[tactic(auto, unfolding(crate::specs::Reading::read_of, crate::specs::Reading::limit))]
+    /// The first fault of the text, as [`TemplateFault`] says: [`TemplateFault::TooLong`] before all else, then
+    /// [`TemplateFault::NotBuilt`] where a macro is defined. [`TemplateFault::Memory`] where there is no memory.
+    #[tactic(auto, unfolding(vtl_grammar::specs::Templates::read_of, vtl_grammar::specs::Templates::limit))]
     pub fn read(alloc: Global, text: &str) -> Result<Self, TemplateFault>
         ensures source { IfOk result (λ template. template ≡ text.now) }
 
-        // What is read is a template, and what is a template is read, but for want of memory.
-        ensures found { OnOk result (IsTemplate text.now (items_of text.now)) }
-        ensures only { (items : List Item) → IsTemplate text.now items → length text.now ≤ limit → MatchResult result (λ template. items_of template ≡ items) (λ fault. fault ≡ TemplateFault.Memory) }
+        // What is read is a template, and what is a template is read, with its tree, but for want of memory.
+        ensures found { OnOk result (IsTemplate text.now (tree_of text.now)) }
+        ensures only { (is : Items) → IsTemplate text.now is → MatchResult result (λ template. tree_of template ≡ is) (λ fault. fault ≡ TemplateFault.Memory) }
 
-        // Each fault is told just where it is.
-        ensures too_long { IsErrOf result TemplateFault.TooLong ↔ (limit < length text.now) }
-        ensures not_built { (at : ℕ) → IsErrOf result (TemplateFault.NotBuilt at) → IsRefusedAt text.now at }
-
-        // The same by the function that reads.
+        // The same by the function that reads; each fault is told just where it is.
         ensures read { OnOk result (IsOk (read_of text.now)) }
         ensures fault { IfErr result (λ fault. fault ≢ TemplateFault.Memory → read_of text.now ≡ Err fault) }
+        ensures too_long { IsErrOf result TemplateFault.TooLong ↔ (limit < length text.now) }
     {
         if text.len() > LIMIT {
             return Err(TemplateFault::TooLong);
         }
-        let items = read_items(alloc, text)?;
+        if let Some(left) = first_macro(text.as_bytes()) {
+            return Err(TemplateFault::NotBuilt(text.len().saturating_sub(left)));
+        }
+        let (arena, items) = match read_whole(alloc, text.as_bytes()) {
+            Ok(p) => p,
+            Err(ReadError::Memory) => return Err(TemplateFault::Memory),
+            Err(ReadError::Met(fault)) => return Err(placed(text.len(), fault)),
+        };
         let source = Text::of(String::from_str(alloc, text)?);
-        Ok(Template { source, items })
+        Ok(Template {
+            source,
+            arena,
+            items,
+        })
     }
 
     /// The text that was read.
@@ -71,10 +189,27 @@ impl Template {
         self.source.as_str()
     }
 
-    /// The parts of the template, in order.
-    pub fn items(&self) -> &[Item]
-        ensures { result.now ≡ items_of self.now }
+    /// The nodes of the template, and the numbers of its items.
+    pub fn parts(&self) -> (&Arena, &[usize])
+        ensures tree { items_made (item_of result.0.now) result.1.now ≡ tree_of self.now }
+        ensures below { AllBelow (length result.0.now.items) result.1.now }
     {
-        self.items.as_slice()
+        (&self.arena, self.items.as_slice())
+    }
+
+    /// Whether it is only text and references without calls and indexes.
+    pub fn simple(&self) -> bool
+        ensures { result ≡ is_simple (tree_of self.now) }
+    {
+        let (arena, items) = self.parts();
+        are_simple(arena, items)
+    }
+
+    /// Whether it is only text and references to the body of the request.
+    pub fn plain(&self) -> bool
+        ensures { result ≡ is_plain (tree_of self.now) }
+    {
+        let (arena, items) = self.parts();
+        are_plain(arena, items)
     }
 }

@@ -1,35 +1,31 @@
-use Rattle.std.proofs.Common.{◌≡◌, ◌∙◌, sym, ap, subst, arith}
-use Rattle.vtl_reader.specs.Grammar.{IsTemplate}
-use Rattle.vtl_reader.specs.Reading.{limit, items_of, items_or_none}
-use Rattle.vtl_reader.proofs.Complete.{read_alone}
-use Rattle.vtl_reader.proofs.Faults.{refused_there, not_too_long, only_memory}
-use Rattle.vtl_reader.proofs.Sound.{template_read}
-use Rattle.vtl_reader.proofs.Whole.{read_short}
+use Rattle.std.proofs.Common.{◌≡◌, ◌∙◌, ap, sym, subst, rules, Ok, Err, ℕ, List}
+use Rattle.std.specs.Prelude.{Result}
+use Rattle.vtl_grammar.specs.declared.fault.TemplateFault.{TemplateFault}
+use Rattle.vtl_grammar.specs.Tree.{Items}
+use Rattle.vtl_grammar.specs.Grammar.{IsTemplate}
+use Rattle.vtl_grammar.specs.Templates.{limit, read_of, tree_of, items_or_none}
+use Rattle.vtl_grammar.proofs.SoundTemplates as sound
+use Rattle.vtl_grammar.proofs.Template as back
+use Rattle.vtl_reader.specs.Nodes.{item_of, items_made}
 use Rattle.vtl_reader.proofs.template.Template.read.Goals as goal
 
-pub returns-in_err-items-clause-not_built : goal.returns-in_err-items-clause-not_built
-returns-in_err-items-clause-not_built c =
-    refused_there c.args.text.now c.from_residual.result c.in_err-items.field-0.0 c.from_residual.ensures.1 c.in_err-items.ensures.fault
-
-pub returns-in_err-items-clause-too_long : goal.returns-in_err-items-clause-too_long
-unfolding limit
-returns-in_err-items-clause-too_long c = (
-  λ e. absurd (not_too_long c.args.text.now c.from_residual.result c.in_err-items.field-0.0 c.from_residual.ensures.1 c.in_err-items.ensures.fault e),
-  λ long. absurd (omega arith),
-)
-
-pub returns-in_err-items-clause-only : goal.returns-in_err-items-clause-only
-returns-in_err-items-clause-only c = λ items d short.
-    only_memory c.args.text.now items c.from_residual.result c.in_err-items.field-0.0 _ c.from_residual.ensures.1 c.in_err-items.ensures.fault d
+pub returns-in-Err-Met-clause-only : goal.returns-in-Err-Met-clause-only
+unfolding read_of limit
+returns-in-Err-Met-clause-only c = λ is t.
+    let bad : read_of c.args.text.now ≡ Err c.placed.result = search rules in
+    let good : read_of c.args.text.now ≡ Ok is = back.template_read c.args.text.now is t in
+    let both : Ok is ≡ Err c.placed.result = sym good ∙ bad in
+    absurd (cc)
 
 pub returns-clause-found : goal.returns-clause-found
-unfolding limit
+unfolding read_of limit
 returns-clause-found c =
-    let text = c.args.text.now in
-    let items : items_of text ≡ c.in_ok-items.items.items = ap items_or_none (read_short text (omega arith) ∙ c.in_ok-items.ensures.ok) in
-    subst (IsTemplate text) (sym items) (template_read text c.in_ok-items.items.items c.in_ok-items.ensures.ok)
+    let good : read_of c.args.text.now ≡ Ok (items_made (item_of c.in-Ok.p.0) c.in-Ok.p.1.items) = search rules in
+    let P : Result Items TemplateFault → Type 0 = λ r. IsTemplate c.args.text.now (items_or_none r) in
+    subst P (sym good) (sound.template_read c.args.text.now (items_made (item_of c.in-Ok.p.0) c.in-Ok.p.1.items) good)
 
 pub returns-clause-only : goal.returns-clause-only
-returns-clause-only c = λ items d short.
-    let text = c.args.text.now in
-    ap items_of (c.of-source.ensures ∙ c.in_ok-from_str.ensures.ok) ∙ ap items_or_none (read_short text short ∙ read_alone d)
+returns-clause-only c = λ is t.
+    let same : c.of-source.result ≡ c.args.text.now = search rules in
+    let good : read_of c.args.text.now ≡ Ok is = back.template_read c.args.text.now is t in
+    ap tree_of same ∙ ap items_or_none good

@@ -1,0 +1,21 @@
+mod Examples
+pub mod Lexical
+pub mod LexicalOperators
+pub mod LexicalReferences
+pub mod Shorter
+pub mod Gathered
+pub mod Opened
+pub mod Expressions
+pub mod LexicalFronts
+pub mod LexicalDirectives
+pub mod ShorterItems
+pub mod Heads
+pub mod Items
+pub mod Template
+pub mod Held
+pub mod SoundLevels
+pub mod SoundReferences
+pub mod SoundExpressions
+pub mod SoundDirectives
+pub mod SoundItems
+pub mod SoundTemplates

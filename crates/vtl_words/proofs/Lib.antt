@@ -1,0 +1,5 @@
+pub mod Bad
+pub mod Decimals
+pub mod Finds
+pub mod Scanning
+pub mod TextRuns

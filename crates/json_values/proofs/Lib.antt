@@ -1,0 +1,5 @@
+pub mod Seen
+pub mod Opened
+pub mod Plain
+pub mod Pushing
+pub mod Lookups

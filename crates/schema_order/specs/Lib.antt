@@ -1,0 +1,2 @@
+-- what leads to what
+pub mod Leads

@@ -2,7 +2,7 @@
 use Rattle.std.specs.Prelude.{ℕ, List, [], ◌∷◌, ◌++◌, length, codes, Option, Some, None, Result, Ok, Err}
 use Rattle.std.specs.Fmt.{decimal}
 use Rattle.std.specs.List.{concat}
-use Rattle.vtl_reader.specs.Reading.{items_of}
+use Rattle.vtl_grammar.specs.Templates.{tree_of}
 use Rattle.vtl_eval.specs.Meaning.{rendering}
 use Rattle.vtl_eval.specs.declared.stop.Rendered.{Rendered}
 use Rattle.vtl_eval.specs.declared.stop.Stop.{Stop}
@@ -52,7 +52,7 @@ text_answer (Err stop) = gateway_answer ApiConfigurationError
 
 -- the answer to a call whose Enter was replied so
 abbrev pub answer_to : Reply → List ℕ → Answer
-answer_to (Entered view) body = text_answer (rendering budget (body_meanings body) (items_of view.api.source))
+answer_to (Entered view) body = text_answer (rendering budget (body_meanings body) (tree_of view.api.source))
 answer_to reply body = gateway_answer UnknownStage
 
 abbrev pub crlf : List ℕ

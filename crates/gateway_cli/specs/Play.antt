@@ -1,9 +1,10 @@
 -- What a script does, and what it prints.
 use Rattle.std.specs.Prelude.{ℕ, ◌+◌, ◌==◌, ◌||◌, nat_lt, List, [], ◌∷◌, ◌++◌, length, codes, Option, Some, None, Result, Ok, Err, Bool, true, false, if◌then◌else◌}
 use Rattle.std.specs.Str.{bytes_eq}
-use Rattle.vtl_reader.specs.Reading.{read_of}
-use Rattle.vtl_reader.specs.declared.items.Item.{Item}
-use Rattle.vtl_reader.specs.declared.fault.TemplateFault.{TemplateFault}
+use Rattle.vtl_grammar.specs.Templates.{read_of}
+use Rattle.vtl_grammar.specs.Tree.{Items}
+use Rattle.vtl_grammar.specs.Uses.{is_plain}
+use Rattle.vtl_grammar.specs.declared.fault.TemplateFault.{TemplateFault}
 use Rattle.book_core.specs.Rows.{no_rows}
 use Rattle.book_core.specs.History.{Base, is_full, reply, total_size}
 use Rattle.book_core.specs.declared.events.Limits.{Limits}
@@ -21,7 +22,7 @@ use Rattle.gateway_cli.specs.declared.answer.Answer.{Answer}
 use Rattle.gateway_cli.specs.declared.records.Record.{Record}
 use Rattle.gateway_cli.specs.declared.records.Record.TheVariants.{PutText, Deploy, PutStage, Post}
 use Rattle.gateway_cli.specs.declared.records.LineFault.{LineFault}
-use Rattle.gateway_cli.specs.declared.records.LineFault.TheVariants.{Template}
+use Rattle.gateway_cli.specs.declared.records.LineFault.TheVariants.{NotBuilt, Template}
 use Rattle.gateway_cli.specs.declared.turns.Fullness.{Fullness}
 use Rattle.gateway_cli.specs.declared.turns.End.{End}
 use Rattle.gateway_cli.specs.declared.turns.End.TheVariants as ends
@@ -72,10 +73,15 @@ posted limits history enter body =
 abbrev pub refused : ℕ → List Entry → LineFault → Turn
 refused number history fault = record { history = history; text = refused_line number fault; ends = Some ends.Refused }
 
--- a text API is put where its template is read
-abbrev pub put_text : Limits → ℕ → List Entry → ℕ → List ℕ → List ℕ → Result (List Item) TemplateFault → Turn
-put_text limits number history moment api template (Ok items) =
+-- a text API is put where its template is plain; no other is built
+abbrev pub put_plain : Limits → ℕ → List Entry → ℕ → List ℕ → List ℕ → Bool → Turn
+put_plain limits number history moment api template true =
     commanded limits history moment (command.PutApi api (record { text = true; source = template }))
+put_plain limits number history moment api template false = refused number history NotBuilt
+
+-- and where it is read
+abbrev pub put_text : Limits → ℕ → List Entry → ℕ → List ℕ → List ℕ → Result Items TemplateFault → Turn
+put_text limits number history moment api template (Ok items) = put_plain limits number history moment api template (is_plain items)
 put_text limits number history moment api template (Err fault) = refused number history (Template fault)
 
 -- what a record does

@@ -3,7 +3,7 @@ use Rattle.std.specs.Prelude.{ℕ, List, [], ◌∷◌, codes}
 use Rattle.std.specs.Fmt.{decimal}
 use Rattle.std.specs.List.{concat}
 use Rattle.percent_encoding.specs.Percent.{percent_encode}
-use Rattle.vtl_reader.specs.Printed.{printed}
+use Rattle.vtl_grammar.specs.Printed.{printed}
 use Rattle.book_core.specs.Printed.{refusal_name}
 use Rattle.book_core.specs.declared.replies.Reply.{Reply}
 use Rattle.book_core.specs.declared.replies.Reply.TheVariants.{Entered, NoStage, Store, Left, Done, Deployed, Refused}

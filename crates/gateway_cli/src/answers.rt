@@ -1,7 +1,7 @@
 // The answers to a call, to the byte (RFC 9112, sections 3 to 6).
 ghost use Rattle.std.specs.Prelude.{◌≡◌, ◌≢◌, Some, None, Ok, Err, IfOk};
 ghost use Rattle.vtl_eval.specs.Meaning.{rendering};
-ghost use Rattle.vtl_reader.specs.Reading.{items_of};
+ghost use Rattle.vtl_grammar.specs.Templates.{tree_of};
 ghost use Rattle.gateway_cli.specs.Seen.{body_meanings};
 ghost use Rattle.gateway_cli.specs.Answers.{status_of, phrase_of, content_type_of, message_of, message_body as message_body_of, gateway_answer as gateway_answer_of, text_answer as text_answer_of, answer_to as answer_to_reply, cause_line as cause_line_of, status_line as status_line_of, field_lines as field_lines_of, spelled as spelled_of, budget};
 
@@ -75,7 +75,7 @@ fn gateway_answer(alloc: Global, kind: Kind) -> Result<Answer, Memory>
 // The template of a text API over a body; where the render stops, the API is configured badly.
 #[tactic(auto, unfolding(crate::specs::Answers::budget))]
 fn text_answer(alloc: Global, template: &Template, body: &str) -> Result<Answer, Memory>
-    ensures { IfOk result (λ answer. answer ≡ text_answer_of (rendering budget (body_meanings body.now) (items_of template.now))) }
+    ensures { IfOk result (λ answer. answer ≡ text_answer_of (rendering budget (body_meanings body.now) (tree_of template.now))) }
 {
     let mut roots = BodyRoots::new(alloc, body)?;
     match render(alloc, template, &mut roots, BUDGET) {

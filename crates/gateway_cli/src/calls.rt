@@ -2,7 +2,7 @@
 ghost use Rattle.std.specs.Prelude.{◌≡◌, ◌^◌, ◌<◌, [], true, Ok, Err, Some, None, IfOk, MatchResult};
 ghost use Rattle.book_core.specs.History.{reply as reply_of};
 ghost use Rattle.book_core.specs.Rows.{no_rows};
-ghost use Rattle.vtl_reader.specs.Reading.{read_of};
+ghost use Rattle.vtl_grammar.specs.Templates.{read_of};
 ghost use Rattle.gateway_cli.specs.Printed.{full_lines as full_lines_of, refused_line as refused_line_of};
 ghost use Rattle.gateway_cli.specs.Play.{taken as taken_of, commanded as commanded_of, left as left_of, posted as posted_of, put_text as put_text_of, done as done_of, turn as turn_of};
 
@@ -16,7 +16,7 @@ use crate::turns::{End, Fullness, Said};
 use book_core::{Api, Book, Command, Event, Reply, StepFault, Vars};
 use gw_base::{Memory, Seq, Shared, Text};
 use std::alloc::Global;
-use vtl_reader::TemplateFault;
+use vtl_grammar::TemplateFault;
 
 // Takes an event of the one seat, or tells that the history is full.
 fn taken(book: &mut Book, alloc: Global, event: Event) -> Result<Result<Reply, Fullness>, Memory>
@@ -109,7 +109,7 @@ fn refused(alloc: Global, number: u64, fault: LineFault) -> Result<Said, Memory>
     })
 }
 
-// Puts a text API, where its template is read.
+// Puts a text API, where its template is read and plain.
 fn put_text(
     book: &mut Book,
     alloc: Global,
@@ -125,6 +125,9 @@ fn put_text(
 {
     match Api::text(alloc, template) {
         Ok(definition) => {
+            if !definition.template().plain() {
+                return refused(alloc, number, LineFault::NotBuilt);
+            }
             let definition = Shared::new(alloc, definition)?;
             commanded(book, alloc, moment, Command::PutApi { api, definition })
         }

@@ -46,4 +46,6 @@ pub use play::play_within;
 pub use program::run;
 
 #[cfg(test)]
+mod template_tests;
+#[cfg(test)]
 mod tests;

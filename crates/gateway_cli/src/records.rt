@@ -1,5 +1,5 @@
 use gw_base::Text;
-use vtl_reader::TemplateFault;
+use vtl_grammar::TemplateFault;
 
 /// A record of a script, read from its line.
 #[derive(Drop)]

@@ -35,7 +35,7 @@ struct Row {
     status: u8,
 }
 
-const ROWS: [Row; 12] = [
+const ROWS: [Row; 14] = [
     Row {
         script: "",
         said: "",
@@ -58,6 +58,16 @@ const ROWS: [Row; 12] = [
     },
     Row {
         script: "text 0 t $x\n",
+        said: "refused line 1 NotBuilt at ~\n",
+        status: 1,
+    },
+    Row {
+        script: "text 0 t ${input.body\n",
+        said: "refused line 1 Unclosed(0) at /text\n",
+        status: 1,
+    },
+    Row {
+        script: "text 0 t #macro(m)x#end\n",
         said: "refused line 1 NotBuilt(0) at /text\n",
         status: 1,
     },

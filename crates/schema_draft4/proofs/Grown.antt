@@ -3,10 +3,10 @@ use Rattle.std.proofs.Common.{◌≡◌, ℕ, List, [], ◌∷◌, ◌++◌, map
 use Rattle.std.specs.Prelude.{String}
 use Rattle.std.specs.declared.alloc.Global.{Global}
 use Rattle.std.proofs.lemmas.List.{length-map}
-use Rattle.schema_draft4.specs.Made.{AllWellMade, AreWellMade, IsWellMade}
-use Rattle.schema_draft4.specs.Views.{named_schema, rule_of, rules_in, unnamed}
-use Rattle.schema_draft4.specs.declared.rule.Node.{Node}
-use Rattle.schema_draft4.specs.declared.rule.Rule.{Rule}
+use Rattle.schema_rules.specs.Made.{AllWellMade, AreWellMade, IsWellMade}
+use Rattle.schema_rules.specs.Views.{named_schema, rule_of, rules_in, unnamed}
+use Rattle.schema_rules.specs.declared.rule.Node.{Node}
+use Rattle.schema_rules.specs.declared.rule.Rule.{Rule}
 
 pub length_rules : (ns : List Node) → length (map rules_in ns) ≡ length ns
 length_rules ns = length-map ns rules_in

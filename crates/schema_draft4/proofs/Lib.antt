@@ -1,11 +1,7 @@
-pub mod Chains
-pub mod Ordered
 pub mod Rests
 pub mod Targets
 pub mod Grown
 pub mod Parted
 pub mod Linked
 pub mod Back
-pub mod Keywords
-pub mod Known
-pub mod Judged
+pub mod Straight

@@ -6,8 +6,8 @@ use Rattle.json_subset.specs.Documents.{form, kind}
 use Rattle.json_subset.specs.declared.doc.Kind.TheVariants as kinds
 use Rattle.schema_draft4.specs.Faults.{rest_items}
 use Rattle.schema_draft4.specs.Reading.{Reads, Definitions, by_parts, item_schemas, is_list, kind_of, parts, schema_numbers}
-use Rattle.schema_draft4.specs.Rules.{Rule, items_each}
-use Rattle.schema_draft4.specs.Views.{unnamed}
+use Rattle.schema_rules.specs.Rules.{Rule, items_each}
+use Rattle.schema_rules.specs.Views.{unnamed}
 
 numbers_back : (ids : List ℕ) → schema_numbers (map unnamed ids) ≡ ids
 numbers_back [] = refl

@@ -7,8 +7,8 @@ use Rattle.std.specs.declared.alloc.Global.{Global}
 use Rattle.std.proofs.lemmas.Bool.Decides.{nat_tests}
 use Rattle.json_subset.specs.Numbered.{number_named}
 use Rattle.schema_draft4.specs.Reading.{Fault, ref_missing, target_of, is_letter_or_digit, is_inner, are_inner, is_name}
-use Rattle.schema_draft4.specs.Rules.{Rule, refer}
-use Rattle.schema_draft4.specs.Views.{named_schema}
+use Rattle.schema_rules.specs.Rules.{Rule, refer}
+use Rattle.schema_rules.specs.Views.{named_schema}
 
 from_number : List ℕ → Option ℕ → Result (List Rule) Fault
 from_number q None = Err (ref_missing q)

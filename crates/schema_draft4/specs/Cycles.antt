@@ -1,33 +1,34 @@
 -- A `$ref` that leads back to itself through no properties and no items.
-use Rattle.std.specs.Prelude.{◌≡◌, ℕ, zero, suc, List, [], ◌∷◌, ◌++◌, length, map, Option, Some, None}
-use Rattle.schema_draft4.specs.Rules.{Rule, test, properties, additional_properties, items, items_each, additional_items, all_of, any_of, one_of, negated, defines, refer, Schemas, target}
-use Rattle.schema_draft4.specs.Verdict.{rules_of}
+use Rattle.std.specs.Prelude.{◌≡◌, ℕ, zero, suc, List, [], ◌∷◌, ◌++◌, length, map, Option, Some, None, slice_index}
+use Rattle.std.specs.List.{AllByRecursion}
+use Rattle.schema_rules.specs.Rules.{Rule, test, properties, additional_properties, items, items_each, additional_items, all_of, any_of, one_of, negated, defines, refer, Schemas, target}
+use Rattle.schema_rules.specs.Verdict.{rules_of}
 use Rattle.schema_draft4.specs.Reading.{Definitions}
 use Rattle.schema_draft4.specs.Words as word
 use Rattle.schema_order.specs.Leads.{Leads}
 
--- the schemas that a rule names for the same value
-abbrev pub in_place : Schemas → Rule → List ℕ
-in_place ss (test t) = []
-in_place ss (properties ps) = []
-in_place ss (additional_properties xs o) = []
-in_place ss (items s) = []
-in_place ss (items_each xs) = []
-in_place ss (additional_items n o) = []
-in_place ss (all_of xs) = xs
-in_place ss (any_of xs) = xs
-in_place ss (one_of xs) = xs
-in_place ss (negated s) = s ∷ []
-in_place ss (defines ps) = []
-in_place ss (refer t) = target ss t ∷ []
+-- the schemas that a rule names for the same value, where `$ref`s name these targets
+abbrev pub in_place : List ℕ → Rule → List ℕ
+in_place ts (test t) = []
+in_place ts (properties ps) = []
+in_place ts (additional_properties xs o) = []
+in_place ts (items s) = []
+in_place ts (items_each xs) = []
+in_place ts (additional_items n o) = []
+in_place ts (all_of xs) = xs
+in_place ts (any_of xs) = xs
+in_place ts (one_of xs) = xs
+in_place ts (negated s) = s ∷ []
+in_place ts (defines ps) = []
+in_place ts (refer t) = slice_index ts t ∷ []
 
-abbrev pub all_in_place : Schemas → List Rule → List ℕ
-all_in_place ss [] = []
-all_in_place ss (r ∷ rs) = in_place ss r ++ all_in_place ss rs
+abbrev pub all_in_place : List ℕ → List Rule → List ℕ
+all_in_place ts [] = []
+all_in_place ts (r ∷ rs) = in_place ts r ++ all_in_place ts rs
 
 -- for each schema those that it names for the same value
 abbrev pub steps : Schemas → List (List ℕ)
-steps ss = map (all_in_place ss) ss.rules
+steps ss = map (all_in_place ss.targets) ss.rules
 
 abbrev pub referred : Rule → Option ℕ
 referred (test t) = None
@@ -43,24 +44,35 @@ referred (negated s) = None
 referred (defines ps) = None
 referred (refer t) = Some t
 
-abbrev pub or_later : Option ℕ → Option ℕ → Option ℕ
-or_later None o = o
-or_later (Some t) o = Some t
+-- a `$ref`: the schema that it is, and what it names
+abbrev pub Reference : Type 0
+Reference = ℕ × ℕ
 
--- what a schema's `$ref` names
-abbrev pub reference_in : List Rule → Option ℕ
-reference_in [] = None
-reference_in (r ∷ rs) = or_later (referred r) (reference_in rs)
+abbrev pub reference_of : ℕ → Option ℕ → List Reference
+reference_of k None = []
+reference_of k (Some t) = (k, t) ∷ []
 
--- the schema k is a `$ref` to t that leads back to it
-pub record ComesBack (ss : Schemas) (k t : ℕ) : Type 0 where
-  pub refers : reference_in (rules_of ss k) ≡ Some t
-  pub leads : Leads (steps ss) (target ss t) k
+-- the `$ref`s among the keywords of the schema k
+abbrev pub references_in : ℕ → List Rule → List Reference
+references_in k [] = []
+references_in k (r ∷ rs) = reference_of k (referred r) ++ references_in k rs
 
--- of these schemas, the first that comes back is a `$ref` to t
-pub data FirstBack : Schemas → List ℕ → ℕ → Type 0 where
-  comes_back : {ss : Schemas} (k t : ℕ) (ks : List ℕ) → ComesBack ss k t → FirstBack ss (k ∷ ks) t
-  goes_on : {ss : Schemas} (k t : ℕ) (ks : List ℕ) → ((u : ℕ) → ComesBack ss k u → ⊥) → FirstBack ss ks t → FirstBack ss (k ∷ ks) t
+abbrev pub references : Schemas → List ℕ → List Reference
+references ss [] = []
+references ss (k ∷ ks) = references_in k (rules_of ss k) ++ references ss ks
+
+-- what the `$ref` names leads back to it
+abbrev pub ComesBack : Schemas → Reference → Type 0
+ComesBack ss r = Leads (steps ss) (target ss r.1) r.0
+
+-- none of these comes back
+abbrev pub NoneBack : Schemas → List Reference → Type 0
+NoneBack ss rs = AllByRecursion (λ r. ComesBack ss r → ⊥) rs
+
+-- the first of these that comes back is a `$ref` to t
+pub data FirstBack : Schemas → List Reference → ℕ → Type 0 where
+  comes_back : {ss : Schemas} (k t : ℕ) (rs : List Reference) → ComesBack ss (k, t) → FirstBack ss ((k, t) ∷ rs) t
+  goes_on : {ss : Schemas} (r : Reference) (t : ℕ) (rs : List Reference) → (ComesBack ss r → ⊥) → FirstBack ss rs t → FirstBack ss (r ∷ rs) t
 
 abbrev pub first_refers : List Rule → Option ℕ
 first_refers [] = None
@@ -78,9 +90,9 @@ abbrev pub orders : Schemas → ℕ → List ℕ
 orders ss zero = []
 orders ss (suc n) = last_or_first (first_refers (rules_of ss n)) n
 
--- the schemas in the order of their `$ref`s: as they end, but the root first where its `$ref` comes before its definitions
-abbrev pub reading_order : Schemas → List ℕ
-reading_order ss = orders ss (length ss.rules)
+-- the `$ref`s in reading order: as their schemas end, but the root's first where it comes before the definitions
+abbrev pub reading_order : Schemas → List Reference
+reading_order ss = references ss (orders ss (length ss.rules))
 
 -- the name by which a `$ref` names its target
 abbrev pub name_at : Definitions → ℕ → List ℕ
@@ -91,6 +103,12 @@ name_at (d ∷ ds) (suc n) = name_at ds n
 abbrev pub target_name : Definitions → ℕ → List ℕ
 target_name defs zero = word.root_name
 target_name defs (suc n) = name_at defs n
+
+-- the first `$ref` in reading order that comes back has this name
+pub record ComesBackBy (ss : Schemas) (defs : Definitions) (x : List ℕ) : Type 0 where
+  pub target : ℕ
+  pub first : FirstBack ss (reading_order ss) target
+  pub names : x ≡ target_name defs target
 
 -- the numbers that a schema's `definitions` gives
 abbrev pub defined : Rule → List ℕ

@@ -1,8 +1,8 @@
 -- What the program's faults stand for, and what is left of a value's parts.
 use Rattle.std.specs.Prelude.{◌≡◌, ℕ, zero, suc, Result, Ok, Err}
 use Rattle.json_subset.specs.Tree.{Form, null, bool, number, text, list, object, Trees, no_trees, tree, Members, no_members, member}
-use Rattle.json_subset.specs.Documents.{Document, part}
-use Rattle.schema_draft4.specs.Verdict.{place_of}
+use Rattle.json_subset.specs.Documents.{Document, IsPart, part}
+use Rattle.schema_rules.specs.Verdict.{place_of}
 use Rattle.schema_draft4.specs.Reading.{Fault, bad_keyword, bad_pattern, unsupported, ref_missing}
 use Rattle.schema_draft4.specs.declared.fault.SchemaFault.{SchemaFault}
 use Rattle.schema_draft4.specs.declared.fault.SchemaFault.TheVariants as code
@@ -16,10 +16,19 @@ Fails d (code.RefMissing x) r = r ≡ Err (ref_missing x)
 Fails d (code.RefCycle x) r = ⊥
 Fails d code.Memory r = Unit {0}
 
+-- what a fault names is a part of the document
+abbrev pub FaultNamesPart : Document → SchemaFault → Type 0
+FaultNamesPart d (code.BadKeyword id) = IsPart d id
+FaultNamesPart d (code.BadPattern id) = IsPart d id
+FaultNamesPart d (code.Unsupported x) = Unit {0}
+FaultNamesPart d (code.RefMissing x) = Unit {0}
+FaultNamesPart d (code.RefCycle x) = Unit {0}
+FaultNamesPart d code.Memory = Unit {0}
+
 -- What a function returned, seen by view, is what reading gives, unless memory ran out.
 abbrev pub Gives : {X Y : Type 0} → Document → (X → Y) → Result X SchemaFault → Result Y Fault → Type 0
 Gives d view (Ok x) r = r ≡ Ok (view x)
-Gives d view (Err e) r = Fails d e r
+Gives d view (Err e) r = Fails d e r × FaultNamesPart d e
 
 abbrev pub trees_from : Trees → ℕ → Trees
 trees_from ts zero = ts

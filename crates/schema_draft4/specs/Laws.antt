@@ -1,20 +1,6 @@
--- What holds of the definitions, whatever the program does.
-use Rattle.std.specs.Prelude.{◌≡◌, ◌↔◌, ◌<◌, ℕ, length}
-use Rattle.std.specs.List.{AllByRecursion}
-use Rattle.json_subset.specs.Tree.{Tree}
-use Rattle.schema_draft4.specs.Rules.{Schemas}
-use Rattle.schema_draft4.specs.Verdict.{valid, one, every, rules_of, verdict}
-use Rattle.schema_draft4.specs.Order.{IsOrdered}
-use Rattle.schema_draft4.specs.Cases.{value_of}
+-- What holds of what was read.
 use Rattle.schema_draft4.specs.Compiled.{Compiled, compiled_schemas}
-
--- the verdict of schemas that come in an order is that of their keywords
-abbrev pub UnfoldsEverywhere : Type 0
-UnfoldsEverywhere = (ss : Schemas) → IsOrdered ss → (t : Tree) (k : ℕ) → k < length ss.rules → verdict ss t k ≡ every ss (verdict ss t) (value_of ss t) (rules_of ss k)
-
--- a value is valid exactly where no keyword fails
-abbrev pub FailsByAKeyword : Type 0
-FailsByAKeyword = (ss : Schemas) → IsOrdered ss → (t : Tree) (k : ℕ) → k < length ss.rules → (verdict ss t k ≡ valid) ↔ AllByRecursion (λ r. one ss (verdict ss t) (value_of ss t) r ≡ valid) (rules_of ss k)
+use Rattle.schema_rules.specs.Order.{IsOrdered}
 
 abbrev pub OrderedByRead : Compiled → Type 0
 OrderedByRead c = IsOrdered (compiled_schemas c)

@@ -5,7 +5,7 @@ ghost use Rattle.json_subset.specs.Documents.{IsPart, form, kind, part};
 ghost use Rattle.json_subset.specs.declared.doc.Kind.TheVariants as kinds;
 ghost use Rattle.json_values.specs.Values.{IsIndexed};
 ghost use Rattle.schema_draft4.specs.Reading as says;
-ghost use Rattle.schema_draft4.specs.Views.{named_schema};
+ghost use Rattle.schema_rules.specs.Views.{named_schema};
 
 use crate::look::{entry_of, object_len};
 use gw_base::Memory;

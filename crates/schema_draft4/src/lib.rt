@@ -14,46 +14,38 @@
 //! | `{"minimum":1.5}` | | `BadKeyword` at `1.5` |
 //! | `{"$ref":"#"}` | | `RefCycle(#)` |
 //!
-//! What a schema is stands in `specs/Reading.antt`, what it says of a value in `specs/Verdict.antt`, one clause for each
-//! keyword. What the contracts promise: [`Schema::read`] answers the schemas that the part is, with what its references
-//! name, or the first fault in reading order; of a reference that comes back it promises that no other fault stands.
-//! [`Schema::check`] answers the definition's verdict, for every schema and every document. The laws of the definitions
-//! are in [`laws`]. Want of memory alone has no cause.
+//! What a schema is stands in `specs/Reading.antt`, and when a reference comes back in `specs/Cycles.antt`; what it says
+//! of a value is said and judged in `schema_rules`. What the contracts promise: [`Schema::read`] answers
+//! the schemas that the part is, with what its references name, none of which comes back; or the first fault in reading
+//! order, and where there is none, the name of the first reference that comes back. [`Schema::check`] answers the
+//! definition's verdict, for every schema and every document. What a fault or a verdict names is a part of the document.
+//! The laws of the verdict are in `schema_rules`. Want of memory alone has no cause.
 //!
 //! A schema is numbered nodes; references go by number. A check costs at most one verdict for each schema and each part
 //! of the value, schemas of one value lowest first, so that its recursion is as deep as the value, whatever the schema.
 //! `uniqueItems` and `enum` compare pair by pair.
 //!
 //! Left out: `patternProperties`, `dependencies`, references to other documents, bounds with a fraction; `format` is
-//! ignored. No clause says which of several references that come back is named, nor that ranks are found for every
-//! schema without such a reference; a test shows both.
+//! ignored. No clause says that want of memory is never answered in place of a schema; tests show it.
 #![tactic(auto)]
 
-mod case;
 mod cycle;
 mod definitions;
 mod fault;
-mod judge;
 pub mod laws;
 mod link;
 mod look;
-mod memo;
-mod names;
-mod parts;
 mod read;
 mod read_rule;
 mod read_test;
 mod reference;
-mod rule;
 mod schema;
-mod sound;
-mod verdict;
 mod word;
 
 pub use fault::SchemaFault;
 pub use schema::Schema;
 pub use schema_keywords::{Keyword, TypeName};
-pub use verdict::Verdict;
+pub use schema_rules::Verdict;
 
 #[cfg(test)]
 mod tests;

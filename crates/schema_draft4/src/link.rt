@@ -1,15 +1,17 @@
 // What the schemas that were read name, and their ranks.
-ghost use Rattle.std.specs.Prelude.{◌≡◌, ◌∷◌, ◌++◌, map, IfOk, OnOk};
-ghost use Rattle.schema_draft4.specs.Cycles.{all_defined, defined, rules_at};
-ghost use Rattle.schema_draft4.specs.Made.{AreWellMade};
-ghost use Rattle.schema_draft4.specs.Views.{named_schema, rule_of, rules_in};
+ghost use Rattle.std.specs.Prelude.{◌≡◌, ◌∷◌, ◌++◌, map, slice_index, IfOk, OnOk};
+ghost use Rattle.schema_order.specs.Leads.{lists_of};
+ghost use Rattle.schema_draft4.specs.Cycles.{all_defined, all_in_place, defined, in_place, rules_at};
+ghost use Rattle.schema_draft4.specs.Cycles.{steps as steps_for};
+ghost use Rattle.schema_rules.specs.Made.{AreWellMade};
+ghost use Rattle.schema_rules.specs.Views.{named_schema, rule_of, rules_in, schemas_of};
 
-use crate::rule::{Node, Rule};
 use gw_base::Memory;
+use schema_rules::{Node, Rule};
 use std::alloc::Global;
 
-// The keywords of a schema, if it stands.
-fn rules_below(nodes: &[Node], k: usize) -> &[Rule]
+/// The keywords of a schema, if it stands.
+pub fn rules_below(nodes: &[Node], k: usize) -> &[Rule]
     ensures { map rule_of result.now ≡ rules_at (map rules_in nodes.now) k }
 {
     if k < nodes.len() {
@@ -67,18 +69,23 @@ fn add_all(targets: &mut Vec<usize>, rules: &[Rule]) -> Result<(), Memory>
     Ok(())
 }
 
+/// The number of what a `$ref` names.
+pub fn target_at(targets: &[usize], t: usize) -> usize
+    ensures { result ≡ slice_index targets.now t }
+{
+    if t < targets.len() { targets[t] } else { 0 }
+}
+
 // What a rule names for the same value.
-fn add_steps(steps: &mut Vec<usize>, targets: &[usize], rule: &Rule) -> Result<(), Memory> {
+fn add_steps(steps: &mut Vec<usize>, targets: &[usize], rule: &Rule) -> Result<(), Memory>
+    ensures { OnOk result (steps.new.items ≡ steps.old.items ++ in_place targets.now (rule_of rule.now)) }
+{
     match rule {
         Rule::AllOf(ids) | Rule::AnyOf(ids) | Rule::OneOf(ids) => {
             steps.extend_from_slice(ids)?;
         }
         Rule::Not(s) => steps.push(*s)?,
-        Rule::Refer(t) => {
-            if let Some(s) = targets.get(*t) {
-                steps.push(*s)?;
-            }
-        }
+        Rule::Refer(t) => steps.push(target_at(targets, *t))?,
         Rule::Test(_)
         | Rule::Properties(_)
         | Rule::AdditionalProperties(_, _)
@@ -90,15 +97,24 @@ fn add_steps(steps: &mut Vec<usize>, targets: &[usize], rule: &Rule) -> Result<(
     Ok(())
 }
 
+// What a schema names for the same value.
+fn steps_of(alloc: Global, targets: &[usize], rules: &[Rule]) -> Result<Vec<usize>, Memory>
+    ensures { IfOk result (λ s. s.items ≡ all_in_place targets.now (map rule_of rules.now)) }
+{
+    let mut steps = Vec::new(alloc);
+    for rule in rules {
+        add_steps(&mut steps, targets, rule)?;
+    }
+    Ok(steps)
+}
+
 /// For each schema those that it names for the same value.
-pub fn steps(alloc: Global, nodes: &[Node], targets: &[usize]) -> Result<Vec<Vec<usize>>, Memory> {
+pub fn steps(alloc: Global, nodes: &[Node], targets: &[usize]) -> Result<Vec<Vec<usize>>, Memory>
+    ensures { IfOk result (λ s. lists_of s.items ≡ steps_for (schemas_of nodes.now targets.now)) }
+{
     let mut steps = Vec::new(alloc);
     for node in nodes {
-        let mut list = Vec::new(alloc);
-        for rule in &node.rules {
-            add_steps(&mut list, targets, rule)?;
-        }
-        steps.push(list)?;
+        steps.push(steps_of(alloc, targets, &node.rules)?)?;
     }
     Ok(steps)
 }

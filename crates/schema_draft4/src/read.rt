@@ -6,20 +6,20 @@ ghost use Rattle.json_subset.specs.Tree.{null};
 ghost use Rattle.json_subset.specs.declared.doc.Kind.TheVariants as kinds;
 ghost use Rattle.json_values.specs.Values.{IsIndexed};
 ghost use Rattle.schema_draft4.specs.Faults.{Gives, rest_items, rest_members};
-ghost use Rattle.schema_draft4.specs.Made.{AllWellMade, AreWellMade, IsWellMade};
+ghost use Rattle.schema_rules.specs.Made.{AllWellMade, AreWellMade, IsWellMade};
 ghost use Rattle.schema_draft4.specs.Reading as says;
-ghost use Rattle.schema_draft4.specs.Verdict.{place_of};
-ghost use Rattle.schema_draft4.specs.Views.{named_schema, rule_of, rules_from, rules_in, unnamed};
+ghost use Rattle.schema_rules.specs.Verdict.{place_of};
+ghost use Rattle.schema_rules.specs.Views.{named_schema, rule_of, rules_from, rules_in, unnamed};
 ghost use Rattle.schema_draft4.specs.Words as word;
 
 use crate::fault::SchemaFault;
 use crate::look::{entry_of, flag_at, full_len, item_of, list_len, object_len};
 use crate::read_rule::{other_items, other_properties, read_plain};
-use crate::rule::{Node, Others, Rule};
 use crate::word::{Word, word_of};
 use gw_base::Memory;
 use json_subset::{Doc, Kind, NodeId};
 use json_values::Members;
+use schema_rules::{Node, Others, Rule};
 use std::alloc::Global;
 
 // One more schema, behind the others.

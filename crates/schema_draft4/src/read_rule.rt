@@ -4,31 +4,31 @@ ghost use Rattle.json_subset.specs.Documents.{IsPart, form, kind, part, decoded,
 ghost use Rattle.json_subset.specs.declared.doc.Kind.TheVariants as kinds;
 ghost use Rattle.schema_draft4.specs.Faults.{Gives};
 ghost use Rattle.schema_draft4.specs.Reading as says;
-ghost use Rattle.schema_draft4.specs.Rules as rules;
+ghost use Rattle.schema_rules.specs.Rules as rules;
 ghost use Rattle.schema_draft4.specs.Words as word;
 ghost use Rattle.schema_keywords.specs.Views.{test_of, IsSoundTest};
-ghost use Rattle.schema_draft4.specs.Verdict.{place_of};
+ghost use Rattle.schema_rules.specs.Verdict.{place_of};
 ghost use Rattle.json_values.specs.Values.{IsIndexed};
 ghost use Rattle.json_subset.specs.Grammar.{depth};
-ghost use Rattle.schema_draft4.specs.Views.{IsNameSet, names_of, named_schema, others_of, rule_of, rules_from, rules_in};
-ghost use Rattle.schema_draft4.specs.Made.{AreWellMade, AllWellMade, IsWellMade};
+ghost use Rattle.schema_rules.specs.Views.{IsNameSet, names_of, named_schema, others_of, rule_of, rules_from, rules_in};
+ghost use Rattle.schema_rules.specs.Made.{AreWellMade, AllWellMade, IsWellMade};
 
 use crate::fault::SchemaFault;
 use crate::look::{entry_of, flag_at, text_at};
-use crate::names::{no_names, push_name};
 use crate::read_test::read_test;
 use crate::reference::{reference_rule, unsupported};
-use crate::rule::{Names, Others, Rule};
 use crate::word::Word;
 use gw_base::Memory;
 use json_subset::{Doc, Kind, NodeId};
 use json_values::Members;
 use pattern_core::{Pattern, PatternFault};
 use schema_keywords::Test;
+use schema_rules::{Names, Others, Rule, no_names, push_name};
 use std::alloc::Global;
 
 // The rule of a keyword that looks at the value alone.
 fn test_rule(doc: &Doc, id: NodeId, test: Option<Test>) -> Result<Option<Rule>, SchemaFault>
+    requires stands { IsPart doc.now id }
     requires sound { IfSome test IsSoundTest }
     ensures gives { Gives doc.now rules_from result (says.plain_rule (place_of (part doc.now id)) (option_map test_of test)) }
     ensures made { IfOk result (λ o. IfSome o IsWellMade) }

@@ -9,19 +9,18 @@ ghost use Rattle.json_values.specs.Parts.{trees_in};
 ghost use Rattle.schema_draft4.specs.Faults.{rest_items};
 ghost use Rattle.std.specs.String.{string_bytes};
 ghost use Rattle.schema_draft4.specs.Reading as says;
-ghost use Rattle.schema_draft4.specs.Views.{IsNameSet, names_of};
+ghost use Rattle.schema_rules.specs.Views.{IsNameSet, names_of};
 ghost use Rattle.schema_draft4.specs.Words as word;
 ghost use Rattle.schema_keywords.specs.Keywords as tests;
 ghost use Rattle.schema_keywords.specs.Views.{test_of, IsSoundTest};
 
 use crate::look::{is_sharp, item_of, list_len, size_at, text_at, whole_at};
-use crate::names::{is_named, no_names, push_name};
-use crate::rule::Names;
 use crate::word::{Word, type_of};
 use gw_base::Memory;
 use json_subset::{Doc, Kind, NodeId};
 use json_values::{Form, Value, read_part, value_at};
 use schema_keywords::{Test, TypeName, are_distinct};
+use schema_rules::{Names, is_named, no_names, push_name};
 use std::alloc::Global;
 
 // The names with one more text, if it is one and new.

@@ -1,6 +1,6 @@
 // What a `$ref` names.
 ghost use Rattle.std.specs.Prelude.{◌≡◌, ◌∷◌, [], true, length, map, option_map, IfOk, IfErr, IfSome, ◌⊎◌};
-ghost use Rattle.schema_draft4.specs.Made.{IsWellMade};
+ghost use Rattle.schema_rules.specs.Made.{IsWellMade};
 ghost use Rattle.std.specs.Str.{IsUtf8};
 ghost use Rattle.std.specs.String.{string_bytes};
 ghost use Rattle.json_subset.specs.Documents.{IsPart, form, part, decoded};
@@ -8,16 +8,16 @@ ghost use Rattle.json_subset.specs.Numbered.{number_named};
 ghost use Rattle.json_values.specs.Values.{IsIndexed};
 ghost use Rattle.schema_draft4.specs.Faults.{Gives};
 ghost use Rattle.schema_draft4.specs.Reading as says;
-ghost use Rattle.schema_draft4.specs.Verdict.{place_of};
-ghost use Rattle.schema_draft4.specs.Views.{named_schema, rules_from};
+ghost use Rattle.schema_rules.specs.Verdict.{place_of};
+ghost use Rattle.schema_rules.specs.Views.{named_schema, rules_from};
 ghost use Rattle.schema_draft4.specs.Words as word;
 
 use crate::fault::SchemaFault;
 use crate::look::text_at;
-use crate::rule::Rule;
 use gw_base::Text;
 use json_subset::{Doc, NodeId};
 use json_values::Members;
+use schema_rules::Rule;
 use std::alloc::Global;
 
 // What stands behind this front.

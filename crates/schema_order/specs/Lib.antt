@@ -1,2 +1,4 @@
 -- what leads to what
 pub mod Leads
+-- an order of things
+pub mod Ranks

@@ -2,14 +2,17 @@
 //! thing leads to another.
 //!
 //! ```text
-//! let edges = [[], [0], [1, 0], [3]];              // 1 stands on 0, 2 on 1 and 0, 3 on itself
+//! let edges = [[], [0], [1, 0]];                   // 1 stands on 0, and 2 on both
 //! leads(alloc, &edges, 2, 0)?                      // true
 //! leads(alloc, &edges, 0, 2)?                      // false
-//! order(alloc, &edges)?                            // ranks: 0 before 1 before 2; 3 has none
+//! order(alloc, &edges)?                            // Some: the ranks 0, 1 and 2
+//! order(alloc, &[[1], [0]])?                       // None: 0 leads back to itself
 //! ```
 //!
-//! What the contracts promise: `leads` answers exactly whether a chain leads there. `order` promises nothing of its ranks:
-//! a caller tests them, in one look at each edge. Both are linear in the things and the edges, and recurse nowhere.
+//! What the contracts promise: `leads` answers exactly whether a chain leads there. `order` answers ranks, each below the
+//! number of things and above the ranks of what the thing stands on, or `None`, and then some thing stands on one that
+//! leads back to it. A thing past the last stands on nothing. Want of memory alone has no cause. Both are linear in the
+//! things and the edges, and recurse nowhere.
 #![tactic(auto)]
 
 mod ranks;

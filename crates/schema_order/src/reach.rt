@@ -59,8 +59,8 @@ fn meet_all(
     Ok(())
 }
 
-// What the thing k stands on.
-fn edges_at(edges: &[Vec<usize>], k: usize) -> &[usize]
+/// What the thing k stands on.
+pub fn edges_at(edges: &[Vec<usize>], k: usize) -> &[usize]
     ensures value { result.now ≡ edges_of (lists_of edges.now) k }
     ensures among { AllAmong (edges_of (lists_of edges.now) k) result.now }
 {

@@ -4,7 +4,7 @@ use Rattle.json_subset.specs.Tree.{no_members}
 use Rattle.json_subset.specs.Documents.{form, part}
 use Rattle.schema_draft4.specs.Faults.{rest_members}
 use Rattle.schema_draft4.specs.Reading.{numbered}
-use Rattle.schema_draft4.specs.Views.{named_schema}
+use Rattle.schema_rules.specs.Views.{named_schema}
 use Rattle.schema_draft4.proofs.Rests.{members_all}
 use Rattle.schema_draft4.proofs.definitions.numbered.Goals as goal
 

@@ -3,7 +3,7 @@ use Rattle.json_subset.specs.Documents.{form, part}
 use Rattle.json_values.specs.Values.{IsIndexed}
 use Rattle.schema_draft4.specs.Faults.{rest_members}
 use Rattle.schema_draft4.specs.Reading.{numbered, numbered_form}
-use Rattle.schema_draft4.specs.Views.{named_schema}
+use Rattle.schema_rules.specs.Views.{named_schema}
 use Rattle.schema_draft4.proofs.definitions.numbered.Given as goal
 
 abbrev pub invariant-loop-i : goal.invariant-loop-i

@@ -1,5 +1,5 @@
 use Rattle.std.proofs.Common.{◌≡◌, ◌++◌, drop, map}
-use Rattle.schema_draft4.specs.Views.{named_schema}
+use Rattle.schema_rules.specs.Views.{named_schema}
 use Rattle.schema_draft4.proofs.link.add_numbers.Given as goal
 
 abbrev pub invariant-loop-part : goal.invariant-loop-part

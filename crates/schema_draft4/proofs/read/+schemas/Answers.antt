@@ -3,8 +3,8 @@ use Rattle.json_subset.specs.Tree.{no_trees, no_members}
 use Rattle.json_subset.specs.Documents.{form, part}
 use Rattle.schema_draft4.specs.Faults.{rest_items, rest_members}
 use Rattle.schema_draft4.specs.Reading.{item_schemas, member_schemas, keywords}
-use Rattle.schema_draft4.specs.Rules.{all_of, any_of, one_of}
-use Rattle.schema_draft4.specs.Views.{named_schema, rule_of, rules_in, unnamed}
+use Rattle.schema_rules.specs.Rules.{all_of, any_of, one_of}
+use Rattle.schema_rules.specs.Views.{named_schema, rule_of, rules_in, unnamed}
 use Rattle.schema_draft4.proofs.Parted.{list_rule, each_rule}
 use Rattle.schema_draft4.proofs.Rests.{items_all, members_all}
 use Rattle.schema_draft4.proofs.read.+schemas.Goals as goal

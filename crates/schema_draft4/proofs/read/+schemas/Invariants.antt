@@ -2,9 +2,9 @@ use Rattle.std.proofs.Common.{◌≡◌, ◌+◌, ◌*◌, [], map}
 use Rattle.json_subset.specs.Documents.{form, part}
 use Rattle.json_subset.specs.Grammar.{depth}
 use Rattle.schema_draft4.specs.Faults.{rest_items, rest_members}
-use Rattle.schema_draft4.specs.Made.{AllWellMade, AreWellMade}
+use Rattle.schema_rules.specs.Made.{AllWellMade, AreWellMade}
 use Rattle.schema_draft4.specs.Reading as says
-use Rattle.schema_draft4.specs.Views.{named_schema, rule_of, rules_in, unnamed}
+use Rattle.schema_rules.specs.Views.{named_schema, rule_of, rules_in, unnamed}
 use Rattle.schema_draft4.proofs.read.+schemas.Given as goal
 
 abbrev pub decreases-read_schema : goal.decreases-read_schema

@@ -3,7 +3,7 @@ use Rattle.json_subset.specs.Tree.{no_members}
 use Rattle.json_subset.specs.Documents.{form, part}
 use Rattle.schema_draft4.specs.Faults.{rest_members}
 use Rattle.schema_draft4.specs.Reading.{names_in}
-use Rattle.schema_draft4.specs.Views.{names_of}
+use Rattle.schema_rules.specs.Views.{names_of}
 use Rattle.schema_draft4.proofs.Rests.{members_all}
 use Rattle.schema_draft4.proofs.read_rule.names_below.Goals as goal
 

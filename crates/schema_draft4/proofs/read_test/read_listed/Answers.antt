@@ -3,7 +3,7 @@ use Rattle.json_subset.specs.Tree.{no_trees}
 use Rattle.json_subset.specs.Documents.{form, part}
 use Rattle.schema_draft4.specs.Faults.{rest_items}
 use Rattle.schema_draft4.specs.Reading.{texts, full}
-use Rattle.schema_draft4.specs.Views.{names_of}
+use Rattle.schema_rules.specs.Views.{names_of}
 use Rattle.schema_draft4.proofs.Rests.{items_all}
 use Rattle.schema_draft4.proofs.read_test.read_listed.Goals as goal
 

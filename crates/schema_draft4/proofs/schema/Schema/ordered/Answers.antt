@@ -1,5 +1,5 @@
 use Rattle.std.proofs.Common.{sym}
-use Rattle.schema_draft4.proofs.Ordered.{ordered}
+use Rattle.schema_rules.proofs.Ordered.{ordered}
 use Rattle.schema_draft4.proofs.schema.Schema.ordered.Goals as goal
 
 pub returns : goal.returns

@@ -1,5 +1,0 @@
-use Rattle.schema_draft4.proofs.Chains.{unfolds}
-use Rattle.schema_draft4.proofs.laws.a_verdict_is_that_of_its_keywords.Goals as goal
-
-pub returns : goal.returns
-returns c = unfolds

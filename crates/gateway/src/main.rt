@@ -1,10 +1,10 @@
 //! The gateway's program.
 //!
-//! `main` makes the real input and output and hands them, with the words of the command line, to [`gateway_cli::run`],
-//! which does all that the program does. Its exit status is what `run` answers.
+//! `main` makes the real input and output and the files of the machine, and hands them, with the words of the command
+//! line, to [`gateway_cli::run`], which does all that the program does. Its exit status is what `run` answers.
 #![tactic(auto)]
 
-use gateway_cli::{ReaderSource, WriterSink, run};
+use gateway_cli::{DiskOutside, ReaderSource, WriterSink, run};
 use gw_base::Text;
 use std::alloc::Global;
 use std::env;
@@ -30,5 +30,6 @@ fn main(rt: HostRuntime) -> ExitCode {
     let words = words_of(&rt, alloc);
     let mut input = ReaderSource::new(rt.stdin());
     let mut output = WriterSink::new(rt.stdout());
-    ExitCode::from(run(alloc, &words, &mut input, &mut output))
+    let mut outside = DiskOutside::new(rt);
+    ExitCode::from(run(alloc, &words, &mut input, &mut output, &mut outside))
 }

@@ -1,47 +1,46 @@
--- What holds of an input that is told, and of some input where none is told.
+-- What holds of what the outside tells, and of some value where it tells none.
 use Rattle.std.proofs.Common.{◌≡◌, ℕ, zero, suc, ◌<◌, List, [], ◌∷◌, length, cond, Option, Some, None, IfSome, IfOk, OnErr, Result, Ok, Err, refl, sym, ap, arith}
 use borrow.Author.Tests.{lt-ltb}
 use Rattle.gateway_cli.specs.Play.{played, played_within, script_limit, session_limits, too_long}
-use Rattle.gateway_cli.specs.Top.{OfInput}
+use Rattle.gateway_cli.specs.Top.{OfTold}
 
--- what holds of every input
-pub of_any : (left : Option (List ℕ)) (P : List ℕ → Type 0) → ((input : List ℕ) → P input) → OfInput left P
-of_any None P f = ([], tt, f [])
-of_any (Some told) P f = (told, refl, f told)
+-- what holds of every value, of which there is one
+pub of_any : {A : Type 0} (some : A) (outside : Option A) (P : A → Type 0) → ((x : A) → P x) → OfTold outside P
+of_any some None P f = (some, tt, f some)
+of_any some (Some told) P f = (told, refl, f told)
+
+-- what follows of each value
+pub of_each : {A : Type 0} (outside : Option A) (P Q : A → Type 0) → ((x : A) → P x → Q x) → OfTold outside P → OfTold outside Q
+of_each outside P Q f h = (h.0, h.1, f h.0 h.2)
 
 -- some input is longer than that
-longer : (n : ℕ) → (input : List ℕ) × (n < length input)
+pub longer : (n : ℕ) → (input : List ℕ) × (n < length input)
 longer zero = (0 ∷ [], omega arith)
 longer (suc n) = let more = longer n in (0 ∷ more.0, omega (arith, more.1))
 
 -- what holds of every input that is so long, where one that is told is so long
-pub of_longer : (n : ℕ) (left : Option (List ℕ)) (P : List ℕ → Type 0) → IfSome left (λ told. n < length told) → ((input : List ℕ) → n < length input → P input) → OfInput left P
+pub of_longer : (n : ℕ) (left : Option (List ℕ)) (P : List ℕ → Type 0) → IfSome left (λ told. n < length told) → ((input : List ℕ) → n < length input → P input) → OfTold left P
 of_longer n None P h f = let more = longer n in (more.0, tt, f more.0 more.1)
 of_longer n (Some told) P h f = (told, refl, f told h)
 
 pub if_ok_of_longer : {E : Type 0} (n : ℕ) (left : Option (List ℕ)) (r : Result ℕ E) (Q : List ℕ → ℕ → Type 0) → IfSome left (λ told. n < length told)
-    → ((input : List ℕ) → n < length input → IfOk r (Q input)) → IfOk r (λ status. OfInput left (λ input. Q input status))
+    → ((input : List ℕ) → n < length input → IfOk r (Q input)) → IfOk r (λ status. OfTold left (λ input. Q input status))
 if_ok_of_longer n left (Ok status) Q h f = of_longer n left (λ input. Q input status) h f
 if_ok_of_longer n left (Err e) Q h f = tt
 
-pub if_ok_of_any : {E : Type 0} (left : Option (List ℕ)) (r : Result ℕ E) (Q : List ℕ → ℕ → Type 0) → ((input : List ℕ) → IfOk r (Q input)) → IfOk r (λ status. OfInput left (λ input. Q input status))
-if_ok_of_any left (Ok status) Q f = of_any left (λ input. Q input status) f
-if_ok_of_any left (Err e) Q f = tt
+-- what an answer has, each has that follows from it
+pub if_ok_map : {E : Type 0} (r : Result ℕ E) (P Q : ℕ → Type 0) → ((status : ℕ) → P status → Q status) → IfOk r P → IfOk r Q
+if_ok_map (Ok status) P Q f h = f status h
+if_ok_map (Err e) P Q f h = tt
+
+pub on_err_map : {E : Type 0} (r : Result ℕ E) (P Q : Type 0) → (P → Q) → OnErr r P → OnErr r Q
+on_err_map (Ok status) P Q f h = tt
+on_err_map (Err e) P Q f h = f h
 
 pub on_err_of : {E : Type 0} (r : Result ℕ E) (P : Type 0) → P → OnErr r P
 on_err_of (Ok v) P h = tt
 on_err_of (Err e) P h = h
 
--- what was read, where the source tells it
-pub if_ok_of_read : {E : Type 0} (left : Option (List ℕ)) (script : List ℕ) (r : Result ℕ E) (Q : List ℕ → ℕ → Type 0) → IfSome left (λ told. script ≡ told) → IfOk r (Q script)
-    → IfOk r (λ status. OfInput left (λ input. Q input status))
-if_ok_of_read left script (Ok status) Q same h = (script, same, h)
-if_ok_of_read left script (Err e) Q same h = tt
-
 pub over_limit : (script : List ℕ) → 67108864 < length script → too_long ≡ played script
 unfolding played script_limit
 over_limit script h = sym (ap (λ b. cond b too_long (played_within session_limits script)) (lt-ltb 67108864 (length script) h))
-
--- what follows of each input
-pub of_each : (left : Option (List ℕ)) (P Q : List ℕ → Type 0) → ((input : List ℕ) → P input → Q input) → OfInput left P → OfInput left Q
-of_each left P Q f h = (h.0, h.1, f h.0 h.2)

@@ -4,6 +4,7 @@ use Rattle.std.specs.Fmt.{decimal}
 use Rattle.std.specs.List.{concat}
 use Rattle.vtl_grammar.specs.Templates.{tree_of}
 use Rattle.vtl_eval.specs.Meaning.{rendering}
+use Rattle.vtl_eval.specs.Roots.{Kept}
 use Rattle.vtl_eval.specs.declared.stop.Rendered.{Rendered}
 use Rattle.vtl_eval.specs.declared.stop.Stop.{Stop}
 use Rattle.book_core.specs.declared.kind.Kind.{Kind}
@@ -46,13 +47,13 @@ unfoldable pub budget : ℕ
 budget = 1000000
 
 -- the text that was rendered, or where the render stopped, that the API is configured badly
-abbrev pub text_answer : Result Rendered Stop → Answer
-text_answer (Ok rendered) = record { cause = None; body = rendered.text }
-text_answer (Err stop) = gateway_answer ApiConfigurationError
+abbrev pub text_answer : Result (Rendered × Kept) (Stop × Kept) → Answer
+text_answer (Ok made) = record { cause = None; body = made.0.text }
+text_answer (Err met) = gateway_answer ApiConfigurationError
 
 -- the answer to a call whose Enter was replied so
 abbrev pub answer_to : Reply → List ℕ → Answer
-answer_to (Entered view) body = text_answer (rendering budget (body_meanings body) (tree_of view.api.source))
+answer_to (Entered view) body = text_answer (rendering budget (body_meanings body) (tree_of view.api.source) [])
 answer_to reply body = gateway_answer UnknownStage
 
 abbrev pub crlf : List ℕ

@@ -2,13 +2,19 @@
 pub mod Answers
 -- lines, fields and their coding
 pub mod Coding
+-- what the words ask for
+pub mod Commands
+-- files, by name
+pub mod Files
 -- what a script does, and what it prints
 pub mod Play
 -- the lines that are printed
 pub mod Printed
 -- the records of a script
 pub mod Records
--- what a template sees in a play
+-- what `render` prints of its files
+pub mod Render
+-- what a template sees
 pub mod Seen
 -- what the top call leaves
 pub mod Top

@@ -1,10 +1,11 @@
 -- What a script does, and what it prints.
-use Rattle.std.specs.Prelude.{ℕ, ◌+◌, ◌==◌, ◌||◌, nat_lt, List, [], ◌∷◌, ◌++◌, length, codes, Option, Some, None, Result, Ok, Err, Bool, true, false, if◌then◌else◌}
-use Rattle.std.specs.Str.{bytes_eq}
+use Rattle.std.specs.Prelude.{ℕ, ◌+◌, ◌==◌, ◌||◌, nat_lt, List, [], ◌∷◌, ◌++◌, length, codes, Option, Some, None, Result, Ok, Err, Bool, true, if◌then◌else◌}
 use Rattle.vtl_grammar.specs.Templates.{read_of}
 use Rattle.vtl_grammar.specs.Tree.{Items}
-use Rattle.vtl_grammar.specs.Uses.{is_plain}
 use Rattle.vtl_grammar.specs.declared.fault.TemplateFault.{TemplateFault}
+use Rattle.vtl_needs.specs.Needed.{needs_of}
+use Rattle.vtl_needs.specs.declared.walk.Needs.{Needs}
+use Rattle.vtl_needs.specs.declared.walk.Needs.TheVariants.{Plain, Control, Roots}
 use Rattle.book_core.specs.Rows.{no_rows}
 use Rattle.book_core.specs.History.{Base, is_full, reply, total_size}
 use Rattle.book_core.specs.declared.events.Limits.{Limits}
@@ -73,15 +74,19 @@ posted limits history enter body =
 abbrev pub refused : ℕ → List Entry → LineFault → Turn
 refused number history fault = record { history = history; text = refused_line number fault; ends = Some ends.Refused }
 
--- a text API is put where its template is plain; no other is built
-abbrev pub put_plain : Limits → ℕ → List Entry → ℕ → List ℕ → List ℕ → Bool → Turn
-put_plain limits number history moment api template true =
-    commanded limits history moment (command.PutApi api (record { text = true; source = template }))
-put_plain limits number history moment api template false = refused number history NotBuilt
+-- the command that puts a text API
+abbrev pub put_api : List ℕ → List ℕ → Command
+put_api api template = command.PutApi api (record { text = true; source = template })
+
+-- a text API is put unless its template needs roots other than the body, which are not built
+abbrev pub put_built : Limits → ℕ → List Entry → ℕ → List ℕ → List ℕ → Needs → Turn
+put_built limits number history moment api template Plain = commanded limits history moment (put_api api template)
+put_built limits number history moment api template Control = commanded limits history moment (put_api api template)
+put_built limits number history moment api template Roots = refused number history NotBuilt
 
 -- and where it is read
 abbrev pub put_text : Limits → ℕ → List Entry → ℕ → List ℕ → List ℕ → Result Items TemplateFault → Turn
-put_text limits number history moment api template (Ok items) = put_plain limits number history moment api template (is_plain items)
+put_text limits number history moment api template (Ok items) = put_built limits number history moment api template (needs_of items)
 put_text limits number history moment api template (Err fault) = refused number history (Template fault)
 
 -- what a record does
@@ -120,9 +125,9 @@ abbrev pub unless_ended : Option End → Output → Output
 unless_ended None rest = rest
 unless_ended (Some end) rest = record { text = []; status = status_at end }
 
--- the statuses of a play
-abbrev pub is_play_status : ℕ → Bool
-is_play_status status = status == 0 || status == 1 || status == 4
+-- the statuses of a command that was carried out or refused
+abbrev pub is_command_status : ℕ → Bool
+is_command_status status = status == 0 || status == 1 || status == 4
 
 -- what the lines print after this history, the first of them having this number
 abbrev pub play_from : Limits → ℕ → List Entry → List (List ℕ) → Output
@@ -149,13 +154,3 @@ too_long = record { text = codes "refused TooLong" ++ line_feed; status = 1 }
 -- what a script prints
 unfoldable pub played : List ℕ → Output
 played script = if nat_lt script_limit (length script) then too_long else played_within session_limits script
-
--- the words are `play` alone
-abbrev pub is_play : List (List ℕ) → Bool
-is_play [] = false
-is_play (word ∷ []) = bytes_eq word (codes "play")
-is_play (word ∷ other ∷ words) = false
-
--- what the program prints with these words and this input
-unfoldable pub outcome : List (List ℕ) → List ℕ → Output
-outcome words input = if is_play words then played input else record { text = codes "usage" ++ line_feed; status = 2 }

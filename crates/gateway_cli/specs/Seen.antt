@@ -1,7 +1,7 @@
--- What a template sees in a play.
+-- What a template sees.
 use Rattle.std.specs.Prelude.{ℕ, Bool, false, List, [], ◌∷◌, codes, if◌then◌else◌}
 use Rattle.std.specs.Str.{bytes_eq}
-use Rattle.vtl_eval.specs.Val.{null, text}
+use Rattle.vtl_values.specs.Val.{null, text}
 use Rattle.vtl_eval.specs.Roots.{Stepped, name, Meanings}
 use Rattle.vtl_eval.specs.declared.roots.Root.{Root}
 use Rattle.vtl_eval.specs.declared.roots.Root.TheVariants.{Input}

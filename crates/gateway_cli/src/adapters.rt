@@ -1,7 +1,10 @@
-// The input and the output over any reader and writer of std.
-ghost use Rattle.std.specs.Prelude.{◌≡◌, None, ℕ};
+// The input and the output over any reader and writer of std, and the files of the machine.
+ghost use Rattle.std.specs.Prelude.{◌≤◌, None, length, IfOk};
 
-use gw_base::{Failed, Sink, Source, WriteStop};
+use crate::outside::Outside;
+use gw_base::{Failed, ReadAll, Sink, Source, WriteStop, read_all};
+use std::alloc::Global;
+use std::fs::{self, Files};
 use std::io::{Read, Write};
 
 /// A source over a reader, which counts the reads that fail.
@@ -65,5 +68,42 @@ impl<W: Write + Drop> Sink for WriterSink<W> {
                 Err(WriteStop::Failed)
             }
         }
+    }
+}
+
+/// The files of the machine, which counts those that can't be opened or read.
+#[derive(Drop)]
+pub struct DiskOutside<R: Files + Drop> {
+    rt: R,
+    faults: u64,
+}
+
+impl<R: Files + Drop> DiskOutside<R> {
+    /// The files that this runtime opens, of which none has failed.
+    pub fn new(rt: R) -> Self {
+        DiskOutside { rt, faults: 0 }
+    }
+}
+
+fn read_file<R: Files>(rt: &R, alloc: Global, name: &str, limit: usize) -> Result<Vec<u8>, ReadAll>
+    ensures within { IfOk result (λ v. length v.items ≤ limit) }
+{
+    let Ok(file) = fs::open(rt, name) else {
+        return Err(ReadAll::Fault);
+    };
+    read_all(alloc, &mut ReaderSource::new(file), limit)
+}
+
+impl<R: Files + Drop> Outside for DiskOutside<R> {
+    ghost files = { λ _. None };
+
+    ghost faults = { λ s. s.faults };
+
+    fn file(&mut self, alloc: Global, name: &str, limit: usize) -> Result<Vec<u8>, ReadAll> {
+        let read = read_file(&self.rt, alloc, name, limit);
+        if matches!(&read, Err(ReadAll::Fault)) {
+            self.faults = self.faults.saturating_add(1);
+        }
+        read
     }
 }

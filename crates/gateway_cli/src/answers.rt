@@ -1,5 +1,5 @@
 // The answers to a call, to the byte (RFC 9112, sections 3 to 6).
-ghost use Rattle.std.specs.Prelude.{◌≡◌, ◌≢◌, Some, None, Ok, Err, IfOk};
+ghost use Rattle.std.specs.Prelude.{◌≡◌, ◌≢◌, [], Some, None, Ok, Err, IfOk};
 ghost use Rattle.vtl_eval.specs.Meaning.{rendering};
 ghost use Rattle.vtl_grammar.specs.Templates.{tree_of};
 ghost use Rattle.gateway_cli.specs.Seen.{body_meanings};
@@ -15,7 +15,7 @@ use vtl_eval::{Stop, render};
 use vtl_reader::Template;
 
 /// The most evaluated nodes of a render.
-const BUDGET: u64 = 1_000_000;
+pub const BUDGET: u64 = 1_000_000;
 
 /// The status of an answer.
 pub fn status(cause: Option<Kind>) -> u16
@@ -75,7 +75,7 @@ fn gateway_answer(alloc: Global, kind: Kind) -> Result<Answer, Memory>
 // The template of a text API over a body; where the render stops, the API is configured badly.
 #[tactic(auto, unfolding(crate::specs::Answers::budget))]
 fn text_answer(alloc: Global, template: &Template, body: &str) -> Result<Answer, Memory>
-    ensures { IfOk result (λ answer. answer ≡ text_answer_of (rendering budget (body_meanings body.now) (tree_of template.now))) }
+    ensures { IfOk result (λ answer. answer ≡ text_answer_of (rendering budget (body_meanings body.now) (tree_of template.now) [])) }
 {
     let mut roots = BodyRoots::new(alloc, body)?;
     match render(alloc, template, &mut roots, BUDGET) {

@@ -17,6 +17,7 @@ use book_core::{Api, Book, Command, Event, Reply, StepFault, Vars};
 use gw_base::{Memory, Seq, Shared, Text};
 use std::alloc::Global;
 use vtl_grammar::TemplateFault;
+use vtl_needs::{Needs, needs_of};
 
 // Takes an event of the one seat, or tells that the history is full.
 fn taken(book: &mut Book, alloc: Global, event: Event) -> Result<Result<Reply, Fullness>, Memory>
@@ -109,7 +110,7 @@ fn refused(alloc: Global, number: u64, fault: LineFault) -> Result<Said, Memory>
     })
 }
 
-// Puts a text API, where its template is read and plain.
+// Puts a text API, where its template is read and its roots are built.
 fn put_text(
     book: &mut Book,
     alloc: Global,
@@ -125,11 +126,13 @@ fn put_text(
 {
     match Api::text(alloc, template) {
         Ok(definition) => {
-            if !definition.template().plain() {
-                return refused(alloc, number, LineFault::NotBuilt);
+            match needs_of(definition.template()) {
+                Needs::Plain | Needs::Control => {
+                    let definition = Shared::new(alloc, definition)?;
+                    commanded(book, alloc, moment, Command::PutApi { api, definition })
+                }
+                Needs::Roots => refused(alloc, number, LineFault::NotBuilt),
             }
-            let definition = Shared::new(alloc, definition)?;
-            commanded(book, alloc, moment, Command::PutApi { api, definition })
         }
         Err(TemplateFault::Memory) => Err(Memory),
         Err(fault) => refused(alloc, number, LineFault::Template(fault)),

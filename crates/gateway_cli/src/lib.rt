@@ -1,8 +1,8 @@
 //! The commands of the program, and the one call that carries them out.
 //!
-//! [`run`] takes the words behind the program's name, an input and an output, and answers the program's status. The one
-//! command so far is `play`: it reads a script from the input, plays it line by line over an empty book, and prints what
-//! each line comes to.
+//! [`run`] takes the words behind the program's name, an input, an output and the files of the outside, and answers the
+//! program's status. `play` reads a script from the input, plays it line by line over an empty book, and prints what each
+//! line comes to. `render TEMPLATE BODY` prints what the template of the one file gives over the body of the other.
 //!
 //! ```text
 //! text 0 hello Hi%20$input.body!       done
@@ -11,18 +11,28 @@
 //! post 0 0 hello v1 Ann                answer HTTP/1.1%20200%20OK%0D%0A..   and   ended Closed
 //! ```
 //!
-//! | line | prints |
+//! | line of a script | prints |
 //! |---|---|
 //! | empty, or begins with `#` | nothing |
 //! | `deploy 0 nope` | `refused NoApi`, and the play goes on |
 //! | `post 0 0 hello v2 Ann` | the 403 answer whose cause is `UNKNOWN_STAGE` |
 //! | `bogus 1` | `refused line 1 BadRecord at ~`, and the play ends with status 1 |
 //! | `key 0 k v on` | `refused line 1 NotBuilt at ~`, and the play ends with status 1 |
-//! | `text 0 t $x` | `refused line 1 NotBuilt(0) at /text`, and the play ends with status 1 |
+//! | `text 0 t $context.stage` | `refused line 1 NotBuilt at ~`, and the play ends with status 1 |
 //!
-//! What is promised: what `run` writes and answers is the outcome of its words and of its input, a definition that speaks
-//! of every script to the byte (`specs/Play.antt`), or a front of it where memory is wanting or the input or the output
-//! fails; the program tells such a fault only where a count of faults rose in the call.
+//! | template over the body `Ann` | `render` prints |
+//! |---|---|
+//! | `Hi $input.body!` | `Hi Ann!`, and no line feed |
+//! | `#set($a=7/2)$a#set($b=7/0)$b` | `3$b` |
+//! | `#if($a)` | `refused Unclosed(0) at ~`, with status 1 |
+//! | `$context.stage` | `refused NotBuilt at ~`, with status 1 |
+//! | one of 1,000,001 steps | `stop Steps`, with status 1 |
+//! | a file that is not there | `fault file`, with status 3 |
+//!
+//! What is promised: what `run` writes and answers is the outcome of its words, of its input and of the files, a definition
+//! that speaks of every script (`specs/Play.antt`) and of every two files (`specs/Render.antt`) to the byte, or a front of
+//! it where memory is wanting or the input, the output or a file fails; the program tells such a fault only where a count
+//! of faults rose in the call.
 #![tactic(auto)]
 
 mod adapters;
@@ -31,20 +41,32 @@ mod answers;
 mod calls;
 mod coding;
 mod fields;
+mod files;
 mod joined;
+mod outside;
 mod play;
 mod printed;
 mod program;
 mod reading;
 mod records;
+mod render;
+mod say;
 mod seen;
+mod shelf;
 mod stopped;
 mod turns;
+mod words;
 
-pub use adapters::{ReaderSource, WriterSink};
+pub use adapters::{DiskOutside, ReaderSource, WriterSink};
+pub use outside::Outside;
 pub use play::play_within;
 pub use program::run;
+pub use shelf::MemOutside;
 
+#[cfg(test)]
+mod case_tests;
+#[cfg(test)]
+mod render_tests;
 #[cfg(test)]
 mod template_tests;
 #[cfg(test)]

@@ -4,7 +4,7 @@ ghost use Rattle.std.specs.Io.KnownBytes.{Appends};
 ghost use Rattle.gw_base.specs.Outside.{HasWriteCause};
 ghost use Rattle.gw_base.specs.Whole.{AppendsFront};
 ghost use Rattle.book_core.specs.Rows.{no_rows};
-ghost use Rattle.gateway_cli.specs.Play.{turn, played_within, status_at, is_play_status};
+ghost use Rattle.gateway_cli.specs.Play.{turn, played_within, status_at, is_command_status};
 
 use crate::calls::play_line;
 use crate::fields::first_line;
@@ -15,7 +15,7 @@ use std::alloc::Global;
 
 fn status(end: End) -> u8
     ensures value { result ≡ status_at end }
-    ensures known { is_play_status result ≡ true }
+    ensures known { is_command_status result ≡ true }
 {
     match end {
         End::Refused => 1,
@@ -54,7 +54,7 @@ pub fn play_within<W: Sink>(
 ) -> Result<u8, WriteStop>
     requires { length script.now < 2 ^ 63 }
     ensures status { IfOk result (λ status. status ≡ (played_within limits script.now).status) }
-    ensures known { IfOk result (λ status. is_play_status status ≡ true) }
+    ensures known { IfOk result (λ status. is_command_status status ≡ true) }
     ensures all { OnOk result (Appends (W.written output.old) (W.written output.new) (played_within limits script.now).text) }
 
     // Where a write is refused, or memory is wanting, a front is written.

@@ -1,12 +1,12 @@
 // What a template of a text API sees in a play: the body of its request, and nothing else.
 ghost use Rattle.std.specs.Prelude.{◌≡◌, IfOk};
 ghost use Rattle.std.specs.Rc.{rc_str_bytes};
-ghost use Rattle.vtl_eval.specs.Vals.{val_of};
 
 use gw_base::{Memory, Text};
 use std::alloc::Global;
 use std::rc::RcStr;
-use vtl_eval::{Root, Roots, Step, Value};
+use vtl_eval::{Root, Roots, Step};
+use vtl_values::Value;
 
 /// Roots in which `$input.body` is a text, all else is null, and nothing can be written.
 #[derive(Drop)]
@@ -37,15 +37,13 @@ impl Roots for BodyRoots {
     fn get(&mut self, _alloc: Global, root: Root, path: &[Step]) -> Result<Value, Memory> {
         match (root, path) {
             (Root::Input, [Step::Name(name)]) if name.as_str() == "body" => {
-                Ok(Value::Str(self.body.clone()?))
+                Ok(Value::text(self.body.clone()?))
             }
-            _ => Ok(Value::Null),
+            _ => Ok(Value::null()),
         }
     }
 
-    fn write(&mut self, _alloc: Global, _path: &[RcStr], _value: &Value) -> Result<bool, Memory> {
+    fn write(&mut self, _alloc: Global, _path: &[Text], _value: &Value) -> Result<bool, Memory> {
         Ok(false)
     }
-
-    ghost body_is_text = { λ r. tt };
 }

@@ -1,6 +1,6 @@
 ghost use Rattle.std.specs.Prelude.{◌<◌};
 
-use crate::{play_within, run};
+use crate::{MemOutside, play_within, run};
 use book_core::{Book, Event, Kind, Limits, Reply, StepFault};
 use gw_base::{MemSink, MemSource, Sink, Source, Text};
 use std::alloc::Global;
@@ -21,6 +21,10 @@ fn words(alloc: Global, word: &str) -> Result<Vec<Text>, Fail> {
     Ok(words)
 }
 
+fn no_files(alloc: Global) -> MemOutside {
+    MemOutside::new(Vec::new(alloc), Vec::new(alloc))
+}
+
 fn source(alloc: Global, script: &str, step: usize, fails: &[u32]) -> Result<MemSource, Fail>
     requires { 0 < step }
 {
@@ -35,7 +39,7 @@ struct Row {
     status: u8,
 }
 
-const ROWS: [Row; 14] = [
+const ROWS: [Row; 16] = [
     Row {
         script: "",
         said: "",
@@ -58,6 +62,16 @@ const ROWS: [Row; 14] = [
     },
     Row {
         script: "text 0 t $x\n",
+        said: "done\n",
+        status: 0,
+    },
+    Row {
+        script: "text 0 t $context.stage\n",
+        said: "refused line 1 NotBuilt at ~\n",
+        status: 1,
+    },
+    Row {
+        script: "text 0 t #set($context.a=1)\n",
         said: "refused line 1 NotBuilt at ~\n",
         status: 1,
     },
@@ -116,7 +130,7 @@ fn scripts_are_played(rt: HostRuntime) -> Result<(), Fail> {
         let mut input = source(alloc, row.script, 4096, &[])?;
         let mut output = MemSink::new(alloc, Vec::new(alloc));
         assert_eq!(rt;
-            run(alloc, &play, &mut input, &mut output),
+            run(alloc, &play, &mut input, &mut output, &mut no_files(alloc)),
             row.status,
             "at {}",
             row.script
@@ -133,7 +147,10 @@ fn the_hello_script_is_played_in_pieces(rt: HostRuntime) -> Result<(), Fail> {
     for step in [1, 2, 7, 4096] {
         let mut input = source(alloc, HELLO, step, &[])?;
         let mut output = MemSink::new(alloc, Vec::new(alloc));
-        assert_eq!(rt; run(alloc, &play, &mut input, &mut output), 0);
+        assert_eq!(rt;
+            run(alloc, &play, &mut input, &mut output, &mut no_files(alloc)),
+            0
+        );
         assert_eq!(rt; output.bytes(), HELLO_SAID.as_bytes());
     }
     Ok(())
@@ -149,7 +166,13 @@ fn an_unknown_stage_is_told(rt: HostRuntime) -> Result<(), Fail> {
     let mut input = source(alloc, script.as_str(), 4096, &[])?;
     let mut output = MemSink::new(alloc, Vec::new(alloc));
     assert_eq!(rt;
-        run(alloc, &words(alloc, "play")?, &mut input, &mut output),
+        run(
+            alloc,
+            &words(alloc, "play")?,
+            &mut input,
+            &mut output,
+            &mut no_files(alloc)
+        ),
         0
     );
     assert_eq!(rt; output.bytes(), said.as_bytes());
@@ -170,7 +193,13 @@ fn the_example_of_refusals_is_played(rt: HostRuntime) -> Result<(), Fail> {
     let mut input = source(alloc, script, 4096, &[])?;
     let mut output = MemSink::new(alloc, Vec::new(alloc));
     assert_eq!(rt;
-        run(alloc, &words(alloc, "play")?, &mut input, &mut output),
+        run(
+            alloc,
+            &words(alloc, "play")?,
+            &mut input,
+            &mut output,
+            &mut no_files(alloc)
+        ),
         0
     );
     assert_eq!(rt; output.bytes(), said.as_bytes());
@@ -183,10 +212,25 @@ fn words_of_no_command_are_told(rt: HostRuntime) -> Result<(), Fail> {
     let mut input = source(alloc, HELLO, 4096, &[])?;
     let mut output = MemSink::new(alloc, Vec::new(alloc));
     assert_eq!(rt;
-        run(alloc, &words(alloc, "sing")?, &mut input, &mut output),
+        run(
+            alloc,
+            &words(alloc, "sing")?,
+            &mut input,
+            &mut output,
+            &mut no_files(alloc)
+        ),
         2
     );
-    assert_eq!(rt; run(alloc, &Vec::new(alloc), &mut input, &mut output), 2);
+    assert_eq!(rt;
+        run(
+            alloc,
+            &Vec::new(alloc),
+            &mut input,
+            &mut output,
+            &mut no_files(alloc)
+        ),
+        2
+    );
     assert_eq!(rt; output.bytes(), b"usage\nusage\n".as_slice());
     Ok(())
 }
@@ -198,7 +242,10 @@ fn each_read_and_each_write_fails_once(rt: HostRuntime) -> Result<(), Fail> {
     for call in 0..3 {
         let mut input = source(alloc, HELLO, 60, &[call])?;
         let mut output = MemSink::new(alloc, Vec::new(alloc));
-        assert_eq!(rt; run(alloc, &play, &mut input, &mut output), 3);
+        assert_eq!(rt;
+            run(alloc, &play, &mut input, &mut output, &mut no_files(alloc)),
+            3
+        );
         assert_eq!(rt; output.bytes(), b"fault input\n".as_slice());
     }
     let fronts = [
@@ -211,7 +258,10 @@ fn each_read_and_each_write_fails_once(rt: HostRuntime) -> Result<(), Fail> {
         let mut input = source(alloc, HELLO, 4096, &[])?;
         let fails = Vec::from_slice(alloc, &[call as u32])?;
         let mut output = MemSink::new(alloc, fails);
-        assert_eq!(rt; run(alloc, &play, &mut input, &mut output), 3);
+        assert_eq!(rt;
+            run(alloc, &play, &mut input, &mut output, &mut no_files(alloc)),
+            3
+        );
         let mut said = String::from_str(alloc, front)?;
         said.push_str("fault output\n")?;
         assert_eq!(rt; output.bytes(), said.as_bytes());
@@ -258,6 +308,30 @@ fn a_full_session_is_told(rt: HostRuntime) -> Result<(), Fail> {
     Ok(())
 }
 
+// The interpreter renders what is neither text nor a reference to the body.
+#[test]
+fn a_call_is_rendered_by_the_interpreter(rt: HostRuntime) -> Result<(), Fail> {
+    let alloc = rt.alloc();
+    let script =
+        "text 0 a #foreach($i%20in%20[1..3])$i$input.body#end\ndeploy 0 a\nstage 0 a s 1\npost 0 0 a s x\n";
+    let said =
+        "done\ndeployed 1\ndone\nanswer HTTP/1.1%20200%20OK%0D%0Acontent-type:%20text/plain%0D%0Acontent-length:%206%0D%0A%0D%0A1x2x3x\nended Closed\n";
+    let mut input = source(alloc, script, 4096, &[])?;
+    let mut output = MemSink::new(alloc, Vec::new(alloc));
+    assert_eq!(rt;
+        run(
+            alloc,
+            &words(alloc, "play")?,
+            &mut input,
+            &mut output,
+            &mut no_files(alloc)
+        ),
+        0
+    );
+    assert_eq!(rt; output.bytes(), said.as_bytes());
+    Ok(())
+}
+
 // A body of a megabyte, named eleven times, passes the most bytes of a text.
 #[test]
 fn a_stopped_render_is_told(rt: HostRuntime) -> Result<(), Fail> {
@@ -273,7 +347,13 @@ fn a_stopped_render_is_told(rt: HostRuntime) -> Result<(), Fail> {
     let mut input = source(alloc, script.as_str(), 1_000_000, &[])?;
     let mut output = MemSink::new(alloc, Vec::new(alloc));
     assert_eq!(rt;
-        run(alloc, &words(alloc, "play")?, &mut input, &mut output),
+        run(
+            alloc,
+            &words(alloc, "play")?,
+            &mut input,
+            &mut output,
+            &mut no_files(alloc)
+        ),
         0
     );
     let said =
@@ -291,7 +371,13 @@ fn an_old_fault_is_not_told(rt: HostRuntime) -> Result<(), Fail> {
     assert!(rt; input.read(&mut [0; 1]).is_err());
     assert!(rt; output.write(b"x").is_err());
     assert_eq!(rt;
-        run(alloc, &words(alloc, "play")?, &mut input, &mut output),
+        run(
+            alloc,
+            &words(alloc, "play")?,
+            &mut input,
+            &mut output,
+            &mut no_files(alloc)
+        ),
         0
     );
     assert_eq!(rt; output.bytes(), HELLO_SAID.as_bytes());

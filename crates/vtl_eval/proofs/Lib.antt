@@ -1,0 +1,5 @@
+pub mod Bounds
+pub mod Chains
+pub mod Fronts
+pub mod Loops
+pub mod Names

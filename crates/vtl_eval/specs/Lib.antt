@@ -1,10 +1,14 @@
+-- references and chains, as they are evaluated
+pub mod Evaluated
+-- what the program's values say
+pub mod Views
 -- what a template renders to, what it costs, and where it stops
 pub mod Meaning
 -- how a stop is printed
 pub mod Printed
+-- references, from their names to their values
+pub mod References
 -- what roots mean, and what was written
 pub mod Roots
--- values, as trees
-pub mod Val
--- which trees the values of the program stand for
-pub mod Vals
+-- the state of a render, its cost and its limits
+pub mod World

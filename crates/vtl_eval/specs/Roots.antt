@@ -1,9 +1,8 @@
 -- What roots mean, and what was written below $context.
-use Rattle.std.specs.Prelude.{ℕ, Bool, true, false, ◌&&◌, List, [], ◌∷◌, codes, if◌then◌else◌}
+use Rattle.std.specs.Prelude.{ℕ, Bool, true, false, ◌&&◌, List, [], ◌∷◌, if◌then◌else◌}
 use Rattle.std.specs.Str.{bytes_eq}
-use Rattle.vtl_eval.specs.Val.{Val, text}
+use Rattle.vtl_values.specs.Val.{Val}
 use Rattle.vtl_eval.specs.declared.roots.Root.{Root}
-use Rattle.vtl_eval.specs.declared.roots.Root.TheVariants.{Input}
 
 -- a step of a reference, its arguments and indexes being evaluated
 pub data Stepped : Type 0 where
@@ -35,15 +34,3 @@ put_path (first ∷ rest) path value = if same_path first.0 path then (path, val
 abbrev pub kept_after : Bool → Kept → List (List ℕ) → Val → Kept
 kept_after true kept path value = put_path kept path value
 kept_after false kept path value = kept
-
--- the path of the body, `.body`
-abbrev pub body_path : List Stepped
-body_path = name (codes "body") ∷ []
-
-abbrev pub body_value : Meanings → Val
-body_value meanings = meanings.value Input body_path
-
--- the value is a text
-abbrev pub IsText : Val → Type 0
-IsText (text t) = Unit {0}
-IsText value = ⊥

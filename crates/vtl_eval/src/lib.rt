@@ -1,32 +1,41 @@
-//! Renders a template: text, and references whose values roots give.
+//! Renders a template: the interpreter of mapping templates.
 //!
-//! [`render`] walks the items of a template in order, within a budget of steps. Each text and each reference costs one
-//! step. A reference asks the [`Roots`] for its [`Value`] and prints it.
+//! [`render`] evaluates the items of a template in order, within a budget of steps. References below `$input`, `$context`,
+//! `$util` and `$stageVariables` ask the [`Roots`]; what a `#set` writes below `$context` is handed to them.
 //!
 //! ```text
-//! let template = Template::read(alloc, "Hi $input.body!")?;
-//! let rendered = render(alloc, &template, &mut roots, 1_000_000)?;   // "Hi Ann!" where the body is "Ann"; 3 steps
+//! let template = Template::read(alloc, "#foreach($x in [1..3])$x#if($foreach.hasNext),#end#end")?;
+//! let rendered = render(alloc, &template, &mut roots, 1_000_000)?;   // "1,2,3", 15 steps
 //! ```
 //!
-//! | template | body | budget | `render` answers |
-//! |---|---|---|---|
-//! | `Hi $input.body!` | `Ann` | 3 | `Hi Ann!`, 3 steps |
-//! | `Hi $input.body!` | `Ann` | 2 | `Err(Steps)`, before the `!` |
-//! | no bytes | `Ann` | 0 | the empty text, 0 steps |
-//! | `$input.body$input.body` | 6,000,000 letters | 2 | `Err(Bytes)`, at the second reference |
+//! | template | `render` answers |
+//! |---|---|
+//! | `#set($a=1)#set($a=$none.b)$a` | `1`: a `#set` with null changes nothing |
+//! | `$!x\|$x\|${x}y` | `\|$x\|${x}y`: a null reference prints its source, a quiet one nothing |
+//! | `#set($a=7/2)$a#set($b=7/0)$b` | `3$b` |
+//! | `#foreach($i in [1..1001]).#end` | 1,000 dots: a loop has at most 1,000 turns |
+//! | a template of 1,000,001 steps, within 1,000,000 | `Err(Steps)`, before the last |
+//! | `$input.body$input.body`, whose body has 6,000,000 letters | `Err(Bytes)`, at the second reference |
 //!
-//! What is promised, for every `Roots`: the text and the steps are those that the definition of rendering gives, or the
-//! stop is the one that it meets first; and the roots mean what they meant, with no write made. Until the whole language
-//! is built, the only reference is that to the body, which is a text.
+//! What is promised, for every template without macros and every `Roots`: the text, the steps and what is written below
+//! `$context` are those that the definition of rendering gives (`specs/Meaning.antt`), or the stop is the limit that it
+//! meets first, with what was written before; and the roots mean what they meant. Evaluation recurses no deeper than
+//! brackets and blocks nest, which a template's reader holds to 64 levels: chains of operators, steps and items are loops.
+//!
+//! Not promised: how long it takes. A variable is found by its name from the first that was set on.
 #![tactic(auto)]
 
-mod page;
+mod eval;
+mod items;
+mod operators;
+mod pieces;
+mod reached;
+mod references;
 mod rendering;
 mod roots;
+mod run;
 mod stop;
-mod value;
 
 pub use rendering::render;
 pub use roots::{Root, Roots, Step};
 pub use stop::{Rendered, Stop};
-pub use value::Value;

@@ -1,12 +1,11 @@
 // What the references of a template stand for.
 ghost use Rattle.std.specs.Prelude.{◌≡◌, List, IfOk, OnErr, map};
-ghost use Rattle.vtl_eval.specs.Vals.{val_of, stepped_of, names_of};
-ghost use Rattle.vtl_eval.specs.Roots.{Meanings, Kept, kept_after, IsText, body_value};
+ghost use Rattle.vtl_eval.specs.Views.{stepped_of};
+ghost use Rattle.vtl_eval.specs.Roots.{Meanings, Kept, kept_after};
 
-use crate::value::Value;
-use gw_base::Memory;
+use gw_base::{Memory, Text};
 use std::alloc::Global;
-use std::rc::{RcSlice, RcStr};
+use vtl_values::Value;
 
 /// The names below which the outside gives values: `$input`, `$context`, `$util` and `$stageVariables`.
 #[derive(Clone, Copy, Debug, PartialEq, Eq)]
@@ -20,9 +19,9 @@ pub enum Root {
 /// A step of a reference: `.name`, `[index]` or `.name(arguments)`, with its values evaluated.
 #[derive(Drop)]
 pub enum Step {
-    Name(RcStr),
+    Name(Text),
     Index(Value),
-    Call(RcStr, RcSlice<Value>),
+    Call(Text, Vec<Value>),
 }
 
 /// The values below the four roots, and the places below `$context` to which a template may write.
@@ -35,17 +34,14 @@ pub trait Roots {
 
     /// The value of a path below a root.
     fn get(&mut self, alloc: Global, root: Root, path: &[Step]) -> Result<Value, Memory>
-        ensures value { IfOk result (λ v. val_of v ≡ (meanings self.old).value root (map stepped_of path.now)) }
+        ensures value { IfOk result (λ v. v ≡ (meanings self.old).value root (map stepped_of path.now)) }
         ensures meanings { meanings self.new ≡ meanings self.old }
         ensures kept { kept self.new ≡ kept self.old };
 
     /// Writes a value to a path below `$context`, and answers whether the path may be written.
-    fn write(&mut self, alloc: Global, path: &[RcStr], value: &Value) -> Result<bool, Memory>
-        ensures answer { IfOk result (λ b. b ≡ (meanings self.old).writable (names_of path.now)) }
+    fn write(&mut self, alloc: Global, path: &[Text], value: &Value) -> Result<bool, Memory>
+        ensures answer { IfOk result (λ b. b ≡ (meanings self.old).writable path.now) }
         ensures meanings { meanings self.new ≡ meanings self.old }
-        ensures ok { IfOk result (λ b. kept self.new ≡ kept_after b (kept self.old) (names_of path.now) (val_of value.now)) }
+        ensures ok { IfOk result (λ b. kept self.new ≡ kept_after b (kept self.old) path.now value.now) }
         ensures err { OnErr result (kept self.new ≡ kept self.old) };
-
-    /// The body of the message is a text.
-    ghost body_is_text: { (r : Self) → IsText (body_value (meanings r)) };
 }

@@ -1,5 +1,5 @@
 ghost use Rattle.std.specs.Prelude.{◌≡◌};
-ghost use Rattle.vtl_eval.specs.declared.stop.Stop.TheVariants.{Memory as no_memory};
+ghost use Rattle.vtl_eval.specs.declared.stop.Fail.TheVariants.{Memory as no_memory};
 
 use gw_base::{Memory, Text};
 use std::alloc::{AllocError, AllocFailed};
@@ -12,6 +12,28 @@ pub struct Rendered {
     pub steps: u64,
 }
 
+/// A limit of a render.
+#[derive(Clone, Copy, Debug, PartialEq, Eq)]
+pub enum Limit {
+    /// The budget of steps.
+    Steps,
+    /// The bytes of the text, or of all texts made.
+    Bytes,
+    /// How deep macros call one another.
+    Depth,
+}
+
+/// How items ended.
+#[derive(Clone, Copy, Debug, PartialEq, Eq)]
+pub enum Ended {
+    /// The last one ran.
+    Ran,
+    /// By `#break`.
+    Broke,
+    /// By `#stop`.
+    Stopped,
+}
+
 /// Why a render ended before the template's end.
 #[derive(Clone, Copy, Debug, PartialEq, Eq)]
 pub enum Stop {
@@ -19,10 +41,8 @@ pub enum Stop {
     Steps,
     /// The text would pass 10,485,760 bytes, or all texts made together 67,108,864.
     Bytes,
-    /// A macro was called inside too many others.
+    /// A macro was called inside twenty others.
     Depth,
-    /// The template has more than text and references to the body, and no interpreter is built.
-    NotBuilt,
     /// Memory is wanting.
     Memory,
 }
@@ -39,32 +59,38 @@ impl fmt::Display for Stop {
             Stop::Steps => "Steps",
             Stop::Bytes => "Bytes",
             Stop::Depth => "Depth",
-            Stop::NotBuilt => "NotBuilt",
             Stop::Memory => "Memory",
         })
     }
 }
 
-impl From<AllocError> for Stop {
+/// A limit that was met, or want of memory.
+#[derive(Clone, Copy, Debug, PartialEq, Eq)]
+pub enum Fail {
+    Memory,
+    Met(Limit),
+}
+
+impl From<AllocError> for Fail {
     ghost from_gives = { λ _ e. e ≡ no_memory };
 
     fn from(_: AllocError) -> Self {
-        Stop::Memory
+        Fail::Memory
     }
 }
 
-impl From<Memory> for Stop {
+impl From<Memory> for Fail {
     ghost from_gives = { λ _ e. e ≡ no_memory };
 
     fn from(_: Memory) -> Self {
-        Stop::Memory
+        Fail::Memory
     }
 }
 
-impl<T: Drop> From<AllocFailed<T>> for Stop {
+impl<T: Drop> From<AllocFailed<T>> for Fail {
     ghost from_gives = { λ _ e. e ≡ no_memory };
 
     fn from(_: AllocFailed<T>) -> Self {
-        Stop::Memory
+        Fail::Memory
     }
 }

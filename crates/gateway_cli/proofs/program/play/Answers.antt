@@ -1,3 +1,4 @@
+use Rattle.std.proofs.Common.{[]}
 use Rattle.gateway_cli.specs.Play.{played}
 use Rattle.gateway_cli.specs.Top.{Answered}
 use Rattle.gateway_cli.proofs.Inputs.{of_any, of_longer, if_ok_of_longer, on_err_of}
@@ -16,7 +17,7 @@ returns-in-Err-TooLong-clause-front g c =
     (of_longer 67108864 (g.I.Source.left c.args.input.now) _ (c.in-Err-TooLong.ensures.too_long (cc c.in-Err-TooLong.field-0-is)) c.say_too_long.ensures.front)
 
 pub returns-in-Err-Fault-clause-front : goal.returns-in-Err-Fault-clause-front
-returns-in-Err-Fault-clause-front g c = of_any _ _ (λ script. nothing _ _)
+returns-in-Err-Fault-clause-front g c = of_any [] _ _ (λ script. nothing _ _)
 
 pub returns-in-Err-Memory-clause-front : goal.returns-in-Err-Memory-clause-front
-returns-in-Err-Memory-clause-front g c = of_any _ _ (λ script. nothing _ _)
+returns-in-Err-Memory-clause-front g c = of_any [] _ _ (λ script. nothing _ _)

@@ -1,17 +1,52 @@
-use Rattle.std.proofs.Common.{◌≡◌, false}
-use Rattle.gateway_cli.specs.Play.{outcome, is_play}
+use Rattle.std.proofs.Common.{◌≡◌, true, false}
+use Rattle.gw_base.specs.Whole.{AppendsFront}
+use Rattle.gateway_cli.specs.Commands.{is_play}
 use Rattle.gateway_cli.specs.Top.{Answered}
-use Rattle.gateway_cli.proofs.Inputs.{of_any, if_ok_of_any, on_err_of}
+use Rattle.gateway_cli.proofs.Inputs.{if_ok_map, on_err_map, on_err_of}
+use Rattle.gateway_cli.proofs.Outcomes.{of_play, of_render, of_usage}
 use Rattle.gateway_cli.proofs.program.respond.Goals as goal
 
-pub returns-else-is_play-clause-answered : goal.returns-else-is_play-clause-answered
-returns-else-is_play-clause-answered g c =
-    let other : is_play c.args.words.now ≡ false = cc (c.is_play.ensures, c.if-is_play.false) in
-    if_ok_of_any (g.I.Source.left c.args.input.now) c.say_usage.result
-    (λ script status. Answered (g.W.Sink.written c.args.output.now) (g.W.Sink.written c.say_usage.new.output) (outcome c.args.words.now script) status)
-    (λ script. c.say_usage.ensures.answered c.args.words.now script other)
+pub returns-then-is_play-clause-answered : goal.returns-then-is_play-clause-answered
+returns-then-is_play-clause-answered g c =
+    let same : is_play c.args.words.now ≡ true = cc (c.is_play.ensures, c.if-is_play.true) in
+    if_ok_map c.play.result _ _
+    (λ status. of_play (g.I.Source.left c.args.input.now) (g.O.Outside.files c.args.outside.now) c.args.words.now (λ out. Answered (g.W.Sink.written c.args.output.now) (g.W.Sink.written c.play.new.output) out status) same)
+    c.play.ensures.answered
 
-pub returns-else-is_play-clause-front : goal.returns-else-is_play-clause-front
-returns-else-is_play-clause-front g c =
+pub returns-then-is_play-clause-front : goal.returns-then-is_play-clause-front
+returns-then-is_play-clause-front g c =
+    let same : is_play c.args.words.now ≡ true = cc (c.is_play.ensures, c.if-is_play.true) in
+    on_err_map c.play.result _ _
+    (of_play (g.I.Source.left c.args.input.now) (g.O.Outside.files c.args.outside.now) c.args.words.now (λ out. AppendsFront (g.W.Sink.written c.args.output.now) (g.W.Sink.written c.play.new.output) out.text) same)
+    c.play.ensures.front
+
+pub returns-in-Some-clause-answered : goal.returns-in-Some-clause-answered
+returns-in-Some-clause-answered g c =
     let other : is_play c.args.words.now ≡ false = cc (c.is_play.ensures, c.if-is_play.false) in
-    on_err_of c.say_usage.result _ (of_any (g.I.Source.left c.args.input.now) _ (λ script. c.say_usage.ensures.front c.args.words.now script other))
+    if_ok_map c.render.result _ _
+    (λ status. of_render (g.I.Source.left c.args.input.now) (g.O.Outside.files c.args.outside.now) c.args.words.now
+    (λ out. Answered (g.W.Sink.written c.args.output.now) (g.W.Sink.written c.render.new.output) out status) c.in-Some.template.now c.in-Some.body.now other c.in-Some.ensures)
+    c.render.ensures.answered
+
+pub returns-in-Some-clause-front : goal.returns-in-Some-clause-front
+returns-in-Some-clause-front g c =
+    let other : is_play c.args.words.now ≡ false = cc (c.is_play.ensures, c.if-is_play.false) in
+    on_err_map c.render.result _ _
+    (of_render (g.I.Source.left c.args.input.now) (g.O.Outside.files c.args.outside.now) c.args.words.now
+    (λ out. AppendsFront (g.W.Sink.written c.args.output.now) (g.W.Sink.written c.render.new.output) out.text) c.in-Some.template.now c.in-Some.body.now other c.in-Some.ensures)
+    c.render.ensures.front
+
+pub returns-in-None-clause-answered : goal.returns-in-None-clause-answered
+returns-in-None-clause-answered g c =
+    let other : is_play c.args.words.now ≡ false = cc (c.is_play.ensures, c.if-is_play.false) in
+    if_ok_map c.say_usage.result _ _
+    (λ status. of_usage (g.I.Source.left c.args.input.now) (g.O.Outside.files c.args.outside.now) c.args.words.now
+    (λ out. Answered (g.W.Sink.written c.args.output.now) (g.W.Sink.written c.say_usage.new.output) out status) other c.in-None.ensures)
+    c.say_usage.ensures.answered
+
+pub returns-in-None-clause-front : goal.returns-in-None-clause-front
+returns-in-None-clause-front g c =
+    let other : is_play c.args.words.now ≡ false = cc (c.is_play.ensures, c.if-is_play.false) in
+    on_err_of c.say_usage.result _
+    (of_usage (g.I.Source.left c.args.input.now) (g.O.Outside.files c.args.outside.now) c.args.words.now
+    (λ out. AppendsFront (g.W.Sink.written c.args.output.now) (g.W.Sink.written c.say_usage.new.output) out.text) other c.in-None.ensures c.say_usage.ensures.front)

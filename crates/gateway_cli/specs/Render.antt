@@ -1,0 +1,70 @@
+-- What the command `render` prints of its two files.
+use Rattle.std.specs.Prelude.{ℕ, List, [], ◌∷◌, codes, Option, Some, None, Result, Ok, Err}
+use Rattle.std.specs.List.{concat}
+use Rattle.std.specs.Str.Lossy.{utf8_lossy}
+use Rattle.vtl_grammar.specs.Templates.{read_of}
+use Rattle.vtl_grammar.specs.Tree.{Items}
+use Rattle.vtl_grammar.specs.Printed.{printed}
+use Rattle.vtl_grammar.specs.declared.fault.TemplateFault.{TemplateFault}
+use Rattle.vtl_needs.specs.Needed.{needs_of}
+use Rattle.vtl_needs.specs.declared.walk.Needs.{Needs}
+use Rattle.vtl_needs.specs.declared.walk.Needs.TheVariants.{Plain, Control, Roots}
+use Rattle.vtl_eval.specs.Meaning.{rendering}
+use Rattle.vtl_eval.specs.Printed.{stop_name}
+use Rattle.vtl_eval.specs.Roots.{Kept}
+use Rattle.vtl_eval.specs.declared.stop.Rendered.{Rendered}
+use Rattle.vtl_eval.specs.declared.stop.Stop.{Stop}
+use Rattle.gateway_cli.specs.Answers.{budget}
+use Rattle.gateway_cli.specs.Files.{Files, content_of, within}
+use Rattle.gateway_cli.specs.Play.{Output, too_long}
+use Rattle.gateway_cli.specs.Printed.{line_feed}
+use Rattle.gateway_cli.specs.Records.{body_limit}
+use Rattle.gateway_cli.specs.Seen.{body_meanings}
+
+-- the line of a template that is refused
+unfoldable pub refused : List ℕ → Output
+refused fault = record { text = concat (codes "refused " ∷ fault ∷ codes " at ~" ∷ line_feed ∷ []); status = 1 }
+
+-- the line of a render that stops
+unfoldable pub stopped : Stop → Output
+stopped stop = record { text = concat (codes "stop " ∷ stop_name stop ∷ line_feed ∷ []); status = 1 }
+
+-- the text that was rendered and nothing else, or the limit that was met
+abbrev pub shown : Result (Rendered × Kept) (Stop × Kept) → Output
+shown (Ok made) = record { text = made.0.text; status = 0 }
+shown (Err met) = stopped met.0
+
+-- a template of this tree over a body, unless it needs roots other than the body, which are not built
+abbrev pub shown_by : Needs → Items → List ℕ → Output
+shown_by Plain items body = shown (rendering budget (body_meanings body) items [])
+shown_by Control items body = shown (rendering budget (body_meanings body) items [])
+shown_by Roots items body = refused (codes "NotBuilt")
+
+-- and where it is read
+abbrev pub read_over : Result Items TemplateFault → List ℕ → Output
+read_over (Ok items) body = shown_by (needs_of items) items body
+read_over (Err fault) body = refused (printed fault)
+
+-- two texts, unless one is over its limit
+abbrev pub judged : Option (List ℕ) → Option (List ℕ) → Output
+judged None body = too_long
+judged (Some template) None = too_long
+judged (Some template) (Some body) = read_over (read_of (utf8_lossy template)) (utf8_lossy body)
+
+-- the most bytes of the template's file
+unfoldable pub template_limit : ℕ
+template_limit = 307200
+
+-- the bytes of a template's file over those of a body's; bytes that are no UTF-8 stand for U+FFFD
+abbrev pub rendered : List ℕ → List ℕ → Output
+rendered template body = judged (within template_limit template) (within body_limit body)
+
+-- both files must be there
+abbrev pub rendered_files : Option (List ℕ) → Option (List ℕ) → Output
+rendered_files None body = record { text = []; status = 3 }
+rendered_files (Some template) None = record { text = []; status = 3 }
+rendered_files (Some template) (Some body) = rendered template body
+
+-- the files of these two names, of the template's and the body's
+abbrev pub render_of : Files → List ℕ → List ℕ → Output
+render_of files template body = rendered_files (content_of template files) (content_of body files)

@@ -1,0 +1,70 @@
+// Asking for the files of `render`.
+ghost use Rattle.std.specs.Prelude.{◌≡◌, ◌≤◌, ℕ, List, Some, IfOk, IsErrOf, Err, ◌≢◌};
+ghost use Rattle.gw_base.specs.Outside.{Rose};
+ghost use Rattle.gateway_cli.specs.Files.{Holds, within};
+ghost use Rattle.gateway_cli.specs.Render.{judged, render_of};
+ghost use Rattle.gateway_cli.specs.Top.{OfTold};
+
+use crate::outside::Outside;
+use crate::stopped::Stopped;
+use gw_base::{Bytes, Memory, ReadAll};
+use std::alloc::Global;
+
+/// The most bytes of a template's file.
+const TEMPLATE_LIMIT: usize = 307_200;
+
+/// The most bytes of a body's file.
+const BODY_LIMIT: usize = 10_485_760;
+
+// Asks for a file; one that is over its limit is answered as None.
+fn file_in<O: Outside>(
+    alloc: Global,
+    outside: &mut O,
+    name: &str,
+    limit: usize,
+) -> Result<Option<Bytes>, Stopped>
+    ensures read { IfOk result (λ bytes. (content : List ℕ) × Holds (O.files outside.old) name.now content × (bytes ≡ within limit content)) }
+    ensures fault { IsErrOf result Stopped.File → Rose (O.faults outside.old) (O.faults outside.new) }
+    ensures input { result ≢ Err Stopped.Input }
+    ensures output { result ≢ Err Stopped.Output }
+    ensures later { O.faults outside.old ≤ O.faults outside.new }
+    ensures files { O.files outside.new ≡ O.files outside.old }
+{
+    match outside.file(alloc, name, limit) {
+        Ok(bytes) => Ok(Some(Bytes::of(bytes))),
+        Err(ReadAll::TooLong) => Ok(None),
+        Err(ReadAll::Fault) => Err(Stopped::File),
+        Err(ReadAll::Memory) => Err(Stopped::Memory),
+    }
+}
+
+fn copied(alloc: Global, bytes: &Option<Bytes>) -> Result<Option<Bytes>, Memory>
+    ensures { IfOk result (λ other. other ≡ bytes.now) }
+{
+    match bytes {
+        Some(bytes) => Ok(Some(bytes.copy(alloc)?)),
+        None => Ok(None),
+    }
+}
+
+/// Asks for the template's file and then for the body's; one that is over its limit is answered as None. A file that is
+/// named twice is asked for once.
+pub fn files_in<O: Outside>(
+    alloc: Global,
+    outside: &mut O,
+    template: &str,
+    body: &str,
+) -> Result<(Option<Bytes>, Option<Bytes>), Stopped>
+    ensures read { IfOk result (λ read. OfTold (O.files outside.old) (λ files. judged read.0 read.1 ≡ render_of files template.now body.now)) }
+    ensures fault { IsErrOf result Stopped.File → Rose (O.faults outside.old) (O.faults outside.new) }
+    ensures input { result ≢ Err Stopped.Input }
+    ensures output { result ≢ Err Stopped.Output }
+{
+    let first = file_in(alloc, outside, template, TEMPLATE_LIMIT)?;
+    if template == body {
+        let second = copied(alloc, &first)?;
+        return Ok((first, second));
+    }
+    let second = file_in(alloc, outside, body, BODY_LIMIT)?;
+    Ok((first, second))
+}

@@ -1,0 +1,41 @@
+// What the words ask for.
+ghost use Rattle.std.specs.Prelude.{◌≡◌};
+ghost use Rattle.std.specs.Option.{option_map};
+ghost use Rattle.gateway_cli.specs.Commands.{is_play as is_play_of, is_argument as is_argument_of, render_names as render_names_of};
+
+use gw_base::Text;
+
+/// Whether the words are `play` alone.
+pub fn is_play(words: &[Text]) -> bool
+    ensures { result ≡ is_play_of words.now }
+{
+    match words {
+        [word] => word.as_str() == "play",
+        _ => false,
+    }
+}
+
+// Whether a word is neither empty nor a flag.
+fn is_argument(word: &str) -> bool
+    ensures { result ≡ is_argument_of word.now }
+{
+    match word.as_bytes() {
+        [] => false,
+        [first, ..] => *first != b'-',
+    }
+}
+
+/// The names of the files behind `render`: the template's and the body's.
+pub fn render_names(words: &[Text]) -> Option<(&str, &str)>
+    ensures { option_map (λ names. (names.0.now, names.1.now)) result ≡ render_names_of words.now }
+{
+    let [word, template, body] = words else {
+        return None;
+    };
+    let (template, body) = (template.as_str(), body.as_str());
+    if word.as_str() == "render" && is_argument(template) && is_argument(body) {
+        Some((template, body))
+    } else {
+        None
+    }
+}

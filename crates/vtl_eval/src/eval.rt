@@ -1,0 +1,378 @@
+// Expressions.
+ghost use Rattle.std.specs.Prelude.{◌≡◌, ◌≤◌, ◌<◌, length, IfOk};
+ghost use Rattle.vtl_values.specs.Making.{listed};
+ghost use Rattle.vtl_values.specs.Printed.{printed};
+ghost use Rattle.vtl_words.specs.Views.{op_of};
+ghost use Rattle.vtl_reader.specs.Nodes.{expr_of, exprs_made, step_made, steps_made, part_made, parts_made, pairs_made, AllBelow, StepBelow, StepsBelow, PartBelow, PartsBelow, PairsBelow, LinksBelow};
+ghost use Rattle.vtl_eval.specs.References.{begun, settled};
+ghost use Rattle.vtl_eval.specs.Meaning.{value, values_of, pairs_of, piece, pieces, stepped, walked, operated};
+ghost use Rattle.vtl_eval.specs.Views.{Gives, Does, scene_of, reached_of};
+ghost use Rattle.vtl_eval.specs.Evaluated.{referred, chain, linked, charge};
+
+use crate::operators::{compute, settled_by};
+use crate::pieces::{Pieces, text_value};
+use crate::reached::Reached;
+use crate::references::{
+    after_call, after_index, after_name, begin_reference, end_reference, settle, shown_value,
+};
+use crate::roots::Roots;
+use crate::run::{Run, make, spend};
+use crate::stop::Fail;
+use gw_base::{Memory, Text};
+use std::alloc::Global;
+use vtl_reader::{Arena, ExprNode, Link, Pair, Part, Step as StepNode};
+use vtl_values::{ListMaker, MapMaker, Value, ranged};
+use vtl_words::operators::Operator;
+
+// Charges as many nodes.
+fn spend_all(budget: u64, run: &mut Run, links: &[Link]) -> Result<(), Fail>
+    ensures { Does result (scene_of run.new) (charge budget links.now (scene_of run.old)) }
+{
+    let mut rest = links;
+    while let [_, more @ ..] = rest {
+        spend(budget, run)?;
+        rest = more;
+    }
+    Ok(())
+}
+
+// The list of values.
+fn listed_value(alloc: Global, values: Vec<Value>) -> Result<Value, Memory>
+    ensures { IfOk result (λ v. v ≡ listed values.items) }
+{
+    let mut maker = ListMaker::new(alloc);
+    for value in values {
+        maker.push(value)?;
+    }
+    maker.close(alloc)
+}
+
+// The expression with this number.
+#[cycle(eval)]
+#[tactic(auto, using(crate::proofs::Chains::chain_value))]
+pub fn eval<R: Roots>(
+    alloc: Global,
+    roots: &mut R,
+    arena: &Arena,
+    budget: u64,
+    run: &mut Run,
+    k: usize,
+) -> Result<Value, Fail>
+    requires stands { k < length arena.now.exprs }
+    ensures gives { Gives (λ v. v) result (scene_of run.new) (R.kept roots.new) (value budget (R.meanings roots.old) (expr_of arena.now.exprs k) (scene_of run.old, R.kept roots.old)) }
+    ensures same { R.meanings roots.new ≡ R.meanings roots.old }
+{
+    match arena.expr(k) {
+        ExprNode::Whole(n) => {
+            spend(budget, run)?;
+            Ok(Value::whole(*n))
+        }
+        ExprNode::Boolean(truth) => {
+            spend(budget, run)?;
+            Ok(Value::boolean(*truth))
+        }
+        ExprNode::Text(text) => {
+            spend(budget, run)?;
+            make(run, text.len() as u64)?;
+            Ok(text_value(alloc, text.as_str())?)
+        }
+        ExprNode::Joined(parts) => {
+            spend(budget, run)?;
+            let pieces = eval_pieces(alloc, roots, arena, budget, run, parts, k)?;
+            pieces.join(alloc, run)
+        }
+        ExprNode::Negated(j) => {
+            spend(budget, run)?;
+            let v = eval(alloc, roots, arena, budget, run, *j)?;
+            Ok(Value::boolean(!v.is_true()))
+        }
+        ExprNode::Chain(j, links) => eval_chain(alloc, roots, arena, budget, run, *j, links, k),
+        ExprNode::List(ids) => {
+            spend(budget, run)?;
+            let values = eval_all(alloc, roots, arena, budget, run, ids, k)?;
+            Ok(listed_value(alloc, values)?)
+        }
+        ExprNode::Range(i, j) => {
+            spend(budget, run)?;
+            let first = eval(alloc, roots, arena, budget, run, *i)?;
+            let last = eval(alloc, roots, arena, budget, run, *j)?;
+            Ok(ranged(&first, &last))
+        }
+        ExprNode::Map(pairs) => {
+            spend(budget, run)?;
+            let maker = eval_pairs(alloc, roots, arena, budget, run, pairs, k)?;
+            Ok(maker.close(alloc)?)
+        }
+        ExprNode::Reference(name, steps) => {
+            spend(budget, run)?;
+            refer(alloc, roots, arena, budget, run, name.as_str(), steps, k)
+        }
+    }
+}
+
+// Expressions in order.
+#[cycle(eval)]
+fn eval_all<R: Roots>(
+    alloc: Global,
+    roots: &mut R,
+    arena: &Arena,
+    budget: u64,
+    run: &mut Run,
+    ids: &[usize],
+    below: usize,
+) -> Result<Vec<Value>, Fail>
+    requires stands { below ≤ length arena.now.exprs }
+    requires ids { AllBelow below ids.now }
+    ensures gives { Gives (λ vs. vs.items) result (scene_of run.new) (R.kept roots.new) (values_of budget (R.meanings roots.old) (exprs_made (expr_of arena.now.exprs) ids.now) (scene_of run.old, R.kept roots.old)) }
+    ensures same { R.meanings roots.new ≡ R.meanings roots.old }
+{
+    let mut values = Vec::new(alloc);
+    for k in ids {
+        let v = eval(alloc, roots, arena, budget, run, *k)?;
+        values.push(v)?;
+    }
+    Ok(values)
+}
+
+// The keys and values of a map, in order.
+#[cycle(eval)]
+fn eval_pairs<R: Roots>(
+    alloc: Global,
+    roots: &mut R,
+    arena: &Arena,
+    budget: u64,
+    run: &mut Run,
+    pairs: &[Pair],
+    below: usize,
+) -> Result<MapMaker, Fail>
+    requires stands { below ≤ length arena.now.exprs }
+    requires pairs { PairsBelow below pairs.now }
+    ensures gives { Gives (λ m. m) result (scene_of run.new) (R.kept roots.new) (pairs_of budget (R.meanings roots.old) (pairs_made (expr_of arena.now.exprs) pairs.now) (scene_of run.old, R.kept roots.old)) }
+    ensures same { R.meanings roots.new ≡ R.meanings roots.old }
+{
+    let mut maker = MapMaker::new(alloc);
+    for pair in pairs {
+        let key = eval(alloc, roots, arena, budget, run, pair.key)?;
+        let v = eval(alloc, roots, arena, budget, run, pair.value)?;
+        maker.put(&key, v)?;
+    }
+    Ok(maker)
+}
+
+// The parts of a double-quoted string, in order.
+#[cycle(eval)]
+fn eval_pieces<R: Roots>(
+    alloc: Global,
+    roots: &mut R,
+    arena: &Arena,
+    budget: u64,
+    run: &mut Run,
+    parts: &[Part],
+    below: usize,
+) -> Result<Pieces, Fail>
+    requires stands { below ≤ length arena.now.exprs }
+    requires parts { PartsBelow below parts.now }
+    ensures gives { Gives (λ p. p) result (scene_of run.new) (R.kept roots.new) (pieces budget (R.meanings roots.old) (parts_made (expr_of arena.now.exprs) parts.now) (scene_of run.old, R.kept roots.old)) }
+    ensures same { R.meanings roots.new ≡ R.meanings roots.old }
+{
+    let mut gathered = Pieces::new(alloc);
+    for part in parts {
+        let v = eval_piece(alloc, roots, arena, budget, run, part, below)?;
+        gathered.push(v)?;
+    }
+    Ok(gathered)
+}
+
+// A part of a double-quoted string.
+#[cycle(eval)]
+fn eval_piece<R: Roots>(
+    alloc: Global,
+    roots: &mut R,
+    arena: &Arena,
+    budget: u64,
+    run: &mut Run,
+    part: &Part,
+    below: usize,
+) -> Result<Value, Fail>
+    requires stands { below ≤ length arena.now.exprs }
+    requires part { PartBelow below part.now }
+    ensures gives { Gives printed result (scene_of run.new) (R.kept roots.new) (piece budget (R.meanings roots.old) (part_made (expr_of arena.now.exprs) part.now) (scene_of run.old, R.kept roots.old)) }
+    ensures same { R.meanings roots.new ≡ R.meanings roots.old }
+{
+    match part {
+        Part::Bytes(text) => Ok(text_value(alloc, text.as_str())?),
+        Part::Printed(source, name, steps) => {
+            spend(budget, run)?;
+            let v = refer(
+                alloc,
+                roots,
+                arena,
+                budget,
+                run,
+                name.as_str(),
+                steps,
+                below,
+            )?;
+            Ok(shown_value(alloc, source.as_str(), v)?)
+        }
+    }
+}
+
+// A chain of operators of one rank, from the left.
+#[cycle(eval)]
+fn eval_chain<R: Roots>(
+    alloc: Global,
+    roots: &mut R,
+    arena: &Arena,
+    budget: u64,
+    run: &mut Run,
+    first: usize,
+    links: &[Link],
+    below: usize,
+) -> Result<Value, Fail>
+    requires stands { below ≤ length arena.now.exprs }
+    requires first { first < below }
+    requires links { LinksBelow below links.now }
+    ensures gives { Gives (λ v. v) result (scene_of run.new) (R.kept roots.new) (chain budget (R.meanings roots.old) (expr_of arena.now.exprs) (expr_of arena.now.exprs first) links.now (scene_of run.old, R.kept roots.old)) }
+    ensures same { R.meanings roots.new ≡ R.meanings roots.old }
+{
+    spend_all(budget, run, links)?;
+    let v = eval(alloc, roots, arena, budget, run, first)?;
+    eval_links(alloc, roots, arena, budget, run, v, links, below)
+}
+
+// Further operands, each behind the value so far.
+#[cycle(eval)]
+fn eval_links<R: Roots>(
+    alloc: Global,
+    roots: &mut R,
+    arena: &Arena,
+    budget: u64,
+    run: &mut Run,
+    first: Value,
+    links: &[Link],
+    below: usize,
+) -> Result<Value, Fail>
+    requires stands { below ≤ length arena.now.exprs }
+    requires links { LinksBelow below links.now }
+    ensures gives { Gives (λ v. v) result (scene_of run.new) (R.kept roots.new) (linked budget (R.meanings roots.old) (expr_of arena.now.exprs) links.now first (scene_of run.old, R.kept roots.old)) }
+    ensures same { R.meanings roots.new ≡ R.meanings roots.old }
+{
+    let mut v = first;
+    for link in links {
+        v = eval_link(
+            alloc,
+            roots,
+            arena,
+            budget,
+            run,
+            v,
+            link.operator,
+            link.operand,
+        )?;
+    }
+    Ok(v)
+}
+
+// An operator behind its first operand.
+#[cycle(eval)]
+fn eval_link<R: Roots>(
+    alloc: Global,
+    roots: &mut R,
+    arena: &Arena,
+    budget: u64,
+    run: &mut Run,
+    first: Value,
+    operator: Operator,
+    operand: usize,
+) -> Result<Value, Fail>
+    requires stands { operand < length arena.now.exprs }
+    ensures gives { Gives (λ v. v) result (scene_of run.new) (R.kept roots.new) (operated (op_of operator) first (value budget (R.meanings roots.old) (expr_of arena.now.exprs operand)) (scene_of run.old, R.kept roots.old)) }
+    ensures same { R.meanings roots.new ≡ R.meanings roots.old }
+{
+    match settled_by(operator, &first) {
+        Some(truth) => Ok(Value::boolean(truth)),
+        None => {
+            let second = eval(alloc, roots, arena, budget, run, operand)?;
+            compute(alloc, run, operator, &first, &second)
+        }
+    }
+}
+
+// The value of a reference to a name.
+#[cycle(eval)]
+pub fn refer<R: Roots>(
+    alloc: Global,
+    roots: &mut R,
+    arena: &Arena,
+    budget: u64,
+    run: &mut Run,
+    name: &str,
+    steps: &[StepNode],
+    below: usize,
+) -> Result<Value, Fail>
+    requires stands { below ≤ length arena.now.exprs }
+    requires steps { StepsBelow below steps.now }
+    ensures gives { Gives (λ v. v) result (scene_of run.new) (R.kept roots.new) (referred budget (R.meanings roots.old) name.now (steps_made (expr_of arena.now.exprs) steps.now) (scene_of run.old, R.kept roots.old)) }
+    ensures same { R.meanings roots.new ≡ R.meanings roots.old }
+{
+    let begun = begin_reference(run, alloc, name)?;
+    let reached = walk(alloc, roots, arena, budget, run, begun, steps, below)?;
+    end_reference(alloc, roots, run, reached)
+}
+
+// The steps of a reference, in order.
+#[cycle(eval)]
+fn walk<R: Roots>(
+    alloc: Global,
+    roots: &mut R,
+    arena: &Arena,
+    budget: u64,
+    run: &mut Run,
+    begun: Reached,
+    steps: &[StepNode],
+    below: usize,
+) -> Result<Reached, Fail>
+    requires stands { below ≤ length arena.now.exprs }
+    requires steps { StepsBelow below steps.now }
+    ensures gives { Gives reached_of result (scene_of run.new) (R.kept roots.new) (walked budget (R.meanings roots.old) (steps_made (expr_of arena.now.exprs) steps.now) (reached_of begun) (scene_of run.old, R.kept roots.old)) }
+    ensures same { R.meanings roots.new ≡ R.meanings roots.old }
+{
+    let mut reached = begun;
+    for step in steps {
+        reached = take_step(alloc, roots, arena, budget, run, reached, step, below)?;
+    }
+    Ok(reached)
+}
+
+// A step of a reference.
+#[cycle(eval)]
+fn take_step<R: Roots>(
+    alloc: Global,
+    roots: &mut R,
+    arena: &Arena,
+    budget: u64,
+    run: &mut Run,
+    reached: Reached,
+    step: &StepNode,
+    below: usize,
+) -> Result<Reached, Fail>
+    requires stands { below ≤ length arena.now.exprs }
+    requires step { StepBelow below step.now }
+    ensures gives { Gives reached_of result (scene_of run.new) (R.kept roots.new) (stepped budget (R.meanings roots.old) (step_made (expr_of arena.now.exprs) step.now) (reached_of reached) (scene_of run.old, R.kept roots.old)) }
+    ensures same { R.meanings roots.new ≡ R.meanings roots.old }
+{
+    match step {
+        StepNode::Member(name) => after_name(alloc, roots, run, reached, name.as_str()),
+        StepNode::Call(name, ids) => {
+            let settled = settle(alloc, roots, run, reached)?;
+            let values = eval_all(alloc, roots, arena, budget, run, ids, below)?;
+            after_call(alloc, roots, run, settled, name.as_str(), values)
+        }
+        StepNode::Index(k) => {
+            let settled = settle(alloc, roots, run, reached)?;
+            let index = eval(alloc, roots, arena, budget, run, *k)?;
+            after_index(alloc, roots, run, settled, index)
+        }
+    }
+}

@@ -1,0 +1,261 @@
+// Items.
+ghost use Rattle.std.specs.Prelude.{◌≡◌, ◌≤◌, ◌<◌, ◌-◌, length, drop, Ok, IfOk, OnOk};
+ghost use Rattle.vtl_grammar.specs.Tree.{foreach, Items};
+ghost use Rattle.vtl_reader.specs.Nodes.{expr_of, item_of, items_made, branches_made, target_of, AllBelow, BranchesBelow};
+ghost use Rattle.vtl_values.specs.Parts.{loop_items};
+ghost use Rattle.vtl_eval.specs.Meaning.{meaning, run as run_of, chosen, turns, turned, restored, over as over_of, assigned};
+ghost use Rattle.vtl_eval.specs.Views.{Gives, scene_of, names_of};
+
+use crate::eval::{eval, refer};
+use crate::roots::Roots;
+use crate::run::{Run, Turn, find, set_name, show, spend, write};
+use crate::stop::{Ended, Fail};
+use gw_base::Memory;
+use std::alloc::Global;
+use vtl_reader::{Arena, Branch, ItemNode, Target};
+use vtl_values::{Value, loop_item, loop_length};
+
+// A `#set`.
+fn assign<R: Roots>(
+    alloc: Global,
+    roots: &mut R,
+    run: &mut Run,
+    target: &Target,
+    value: Value,
+) -> Result<(), Memory>
+    ensures ok { OnOk result ((scene_of run.new, R.kept roots.new) ≡ assigned (R.meanings roots.old) (target_of target.now) value (scene_of run.old, R.kept roots.old)) }
+    ensures same { R.meanings roots.new ≡ R.meanings roots.old }
+{
+    if value.is_null() {
+        return Ok(());
+    }
+    match target {
+        Target::Variable(name) => set_name(alloc, run, name.as_str(), value),
+        Target::Context(path) => {
+            roots.write(alloc, path, &value)?;
+            Ok(())
+        }
+    }
+}
+
+// A turn of a loop begins.
+fn enter(
+    alloc: Global,
+    run: &mut Run,
+    name: &str,
+    before: u32,
+    all: u32,
+    value: Value,
+) -> Result<(), Memory>
+    ensures { OnOk result (scene_of run.new ≡ turned name.now before all value (scene_of run.old)) }
+{
+    set_name(alloc, run, name, value)?;
+    run.turn = Some(Turn { before, all });
+    Ok(())
+}
+
+// Behind a loop its variable and the loop's turn are as before it.
+fn restore(
+    alloc: Global,
+    run: &mut Run,
+    name: &str,
+    value: Value,
+    turn: Option<Turn>,
+) -> Result<(), Memory>
+    ensures { OnOk result (scene_of run.new ≡ restored name.now value turn (scene_of run.old)) }
+{
+    set_name(alloc, run, name, value)?;
+    run.turn = turn;
+    Ok(())
+}
+
+// A `#break` ends the loop alone.
+fn over(ended: Ended) -> Ended
+    ensures { result ≡ over_of ended }
+{
+    match ended {
+        Ended::Ran => Ended::Ran,
+        Ended::Broke => Ended::Ran,
+        Ended::Stopped => Ended::Stopped,
+    }
+}
+
+// The item with this number.
+#[cycle(items)]
+fn run_item<R: Roots>(
+    alloc: Global,
+    roots: &mut R,
+    arena: &Arena,
+    budget: u64,
+    run: &mut Run,
+    k: usize,
+) -> Result<Ended, Fail>
+    requires stands { k < length arena.now.items }
+    ensures gives { Gives (λ e. e) result (scene_of run.new) (R.kept roots.new) (meaning budget (R.meanings roots.old) (item_of arena.now k) (scene_of run.old, R.kept roots.old)) }
+    ensures same { R.meanings roots.new ≡ R.meanings roots.old }
+{
+    match arena.item(k) {
+        ItemNode::Text(text) => {
+            spend(budget, run)?;
+            write(run, text.as_str())?;
+            Ok(Ended::Ran)
+        }
+        ItemNode::Comment => Ok(Ended::Ran),
+        ItemNode::Output(source, name, steps) => {
+            spend(budget, run)?;
+            let v = refer(
+                alloc,
+                roots,
+                arena,
+                budget,
+                run,
+                name.as_str(),
+                steps,
+                arena.expr_count(),
+            )?;
+            show(run, source.as_str(), &v)?;
+            Ok(Ended::Ran)
+        }
+        ItemNode::Set(target, e) => {
+            spend(budget, run)?;
+            let v = eval(alloc, roots, arena, budget, run, *e)?;
+            assign(alloc, roots, run, target, v)?;
+            Ok(Ended::Ran)
+        }
+        ItemNode::If(branches, otherwise) => {
+            spend(budget, run)?;
+            choose(alloc, roots, arena, budget, run, branches, otherwise, k)
+        }
+        ItemNode::ForEach(name, e, body) => {
+            run_loop(alloc, roots, arena, budget, run, name.as_str(), *e, body, k)
+        }
+        ItemNode::Break => {
+            spend(budget, run)?;
+            Ok(Ended::Broke)
+        }
+        ItemNode::Stop => {
+            spend(budget, run)?;
+            Ok(Ended::Stopped)
+        }
+        ItemNode::Define(_, _, _) => Ok(Ended::Ran),
+    }
+}
+
+// Items in order.
+#[cycle(items)]
+pub fn run_items<R: Roots>(
+    alloc: Global,
+    roots: &mut R,
+    arena: &Arena,
+    budget: u64,
+    run: &mut Run,
+    ids: &[usize],
+    below: usize,
+) -> Result<Ended, Fail>
+    requires stands { below ≤ length arena.now.items }
+    requires ids { AllBelow below ids.now }
+    ensures gives { Gives (λ e. e) result (scene_of run.new) (R.kept roots.new) (run_of budget (R.meanings roots.old) (items_made (item_of arena.now) ids.now) (scene_of run.old, R.kept roots.old)) }
+    ensures same { R.meanings roots.new ≡ R.meanings roots.old }
+{
+    for k in ids {
+        match run_item(alloc, roots, arena, budget, run, *k)? {
+            Ended::Ran => {}
+            Ended::Broke => return Ok(Ended::Broke),
+            Ended::Stopped => return Ok(Ended::Stopped),
+        }
+    }
+    Ok(Ended::Ran)
+}
+
+// The first branch whose condition is true.
+#[cycle(items)]
+fn choose<R: Roots>(
+    alloc: Global,
+    roots: &mut R,
+    arena: &Arena,
+    budget: u64,
+    run: &mut Run,
+    branches: &[Branch],
+    otherwise: &[usize],
+    below: usize,
+) -> Result<Ended, Fail>
+    requires stands { below ≤ length arena.now.items }
+    requires branches { BranchesBelow (length arena.now.exprs) below branches.now }
+    requires otherwise { AllBelow below otherwise.now }
+    ensures gives { Gives (λ e. e) result (scene_of run.new) (R.kept roots.new) (chosen budget (R.meanings roots.old) (branches_made (expr_of arena.now.exprs) (item_of arena.now) branches.now (items_made (item_of arena.now) otherwise.now)) (scene_of run.old, R.kept roots.old)) }
+    ensures same { R.meanings roots.new ≡ R.meanings roots.old }
+{
+    for branch in branches {
+        let v = eval(alloc, roots, arena, budget, run, branch.condition)?;
+        if v.is_true() {
+            return run_items(alloc, roots, arena, budget, run, &branch.items, below);
+        }
+    }
+    run_items(alloc, roots, arena, budget, run, otherwise, below)
+}
+
+// A loop: its list, its turns, and its variable as before.
+#[cycle(items)]
+fn run_loop<R: Roots>(
+    alloc: Global,
+    roots: &mut R,
+    arena: &Arena,
+    budget: u64,
+    run: &mut Run,
+    name: &str,
+    e: usize,
+    body: &[usize],
+    below: usize,
+) -> Result<Ended, Fail>
+    requires stands { below ≤ length arena.now.items }
+    requires list { e < length arena.now.exprs }
+    requires body { AllBelow below body.now }
+    ensures gives { Gives (λ e. e) result (scene_of run.new) (R.kept roots.new) (meaning budget (R.meanings roots.old) (foreach name.now (expr_of arena.now.exprs e) (items_made (item_of arena.now) body.now)) (scene_of run.old, R.kept roots.old)) }
+    ensures same { R.meanings roots.new ≡ R.meanings roots.old }
+{
+    spend(budget, run)?;
+    let list = eval(alloc, roots, arena, budget, run, e)?;
+    let old = find(run, name)?;
+    let turn = run.turn;
+    let ended = match run_turns(alloc, roots, arena, budget, run, name, body, &list, below) {
+        Ok(ended) => ended,
+        Err(e) => return Err(e),
+    };
+    restore(alloc, run, name, old, turn)?;
+    Ok(over(ended))
+}
+
+// The turns of a loop.
+#[cycle(items)]
+fn run_turns<R: Roots>(
+    alloc: Global,
+    roots: &mut R,
+    arena: &Arena,
+    budget: u64,
+    run: &mut Run,
+    name: &str,
+    body: &[usize],
+    list: &Value,
+    below: usize,
+) -> Result<Ended, Fail>
+    requires stands { below ≤ length arena.now.items }
+    requires body { AllBelow below body.now }
+    ensures gives { Gives (λ e. e) result (scene_of run.new) (R.kept roots.new) (turns name.now (run_of budget (R.meanings roots.old) (items_made (item_of arena.now) body.now)) 0 (length (loop_items list.now)) (loop_items list.now) (scene_of run.old, R.kept roots.old)) }
+    ensures same { R.meanings roots.new ≡ R.meanings roots.old }
+{
+    let all = loop_length(list);
+    for n in 0..all {
+        let v = loop_item(list, n)?;
+        enter(alloc, run, name, n as u32, all as u32, v)?;
+        let ended = match run_items(alloc, roots, arena, budget, run, body, below) {
+            Ok(ended) => ended,
+            Err(e) => return Err(e),
+        };
+        match ended {
+            Ended::Ran => {}
+            Ended::Broke => return Ok(Ended::Broke),
+            Ended::Stopped => return Ok(Ended::Stopped),
+        }
+    }
+    Ok(Ended::Ran)
+}

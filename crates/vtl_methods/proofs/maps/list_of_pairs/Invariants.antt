@@ -1,0 +1,7 @@
+use Rattle.std.proofs.Common.{◌≡◌, map, take}
+use Rattle.std.specs.Rc.{rc_str_bytes}
+use Rattle.vtl_methods.specs.Methods.{pair}
+use Rattle.vtl_methods.proofs.maps.list_of_pairs.Given as goal
+
+abbrev pub invariant-loop-entry : goal.invariant-loop-entry
+invariant-loop-entry l = l.made ≡ map (λ e. pair (rc_str_bytes e.0) e.1) (take l.entry-index l.entries)

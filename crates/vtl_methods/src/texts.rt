@@ -1,0 +1,268 @@
+// The methods of a text.
+ghost use Rattle.std.specs.Prelude.{◌≡◌, map, IfOk};
+ghost use Rattle.std.specs.Option.{option_map};
+ghost use Rattle.vtl_texts.specs.Characters.{substring as substring_of, substring_from as substring_from_of};
+ghost use Rattle.vtl_texts.specs.Places.{replaced};
+ghost use Rattle.vtl_values.specs.Val.{text as text_val};
+ghost use Rattle.vtl_values.specs.Making.{listed};
+ghost use Rattle.vtl_methods.specs.Answers.{Answers};
+ghost use Rattle.vtl_methods.specs.Methods.{text_method as given, at_whole, text_or_null, replaced_all as replaced_all_of, split_by as split_by_of};
+
+use crate::answers::{alone, counted, only, only_text, part_value, text_value, two_texts};
+use crate::names::TextMethod;
+use gw_base::Memory;
+use std::alloc::Global;
+use vtl_texts::{
+    contains, ends_with, index_of, length, literal, lower, replace, replacement, split,
+    starts_with, substring, substring_from, trim, upper,
+};
+use vtl_values::{Lack, ListMaker, Value};
+
+/// What a method of this text gives.
+pub(crate) fn on_text(
+    alloc: Global,
+    method: TextMethod,
+    text: &str,
+    arguments: &[Value],
+    room: u64,
+) -> Result<Value, Lack>
+    ensures { Answers room (given method text.now arguments.now) result }
+{
+    match method {
+        TextMethod::Length => Ok(length_of(text, arguments)),
+        TextMethod::Equals => Ok(equals(text, arguments)),
+        TextMethod::Contains => Ok(contains_text(text, arguments)),
+        TextMethod::StartsWith => Ok(starts_with_text(text, arguments)),
+        TextMethod::EndsWith => Ok(ends_with_text(text, arguments)),
+        TextMethod::IndexOf => Ok(place_of(text, arguments)),
+        TextMethod::Substring => Ok(substring_at(alloc, text, arguments)?),
+        TextMethod::ToUpperCase => Ok(to_upper(alloc, text, arguments)?),
+        TextMethod::ToLowerCase => Ok(to_lower(alloc, text, arguments)?),
+        TextMethod::Trim => Ok(trimmed(alloc, text, arguments)?),
+        TextMethod::Replace => replace_texts(alloc, text, arguments, room),
+        TextMethod::ReplaceAll => replace_patterns(alloc, text, arguments, room),
+        TextMethod::Split => Ok(split_text(alloc, text, arguments)?),
+        TextMethod::IsEmpty => Ok(is_empty(text, arguments)),
+    }
+}
+
+#[tactic(auto, unfolding(crate::specs::Methods::text_method))]
+fn length_of(text: &str, arguments: &[Value]) -> Value
+    ensures { result ≡ given TextMethod.Length text.now arguments.now }
+{
+    alone(counted(length(text)), arguments)
+}
+
+#[tactic(auto, unfolding(crate::specs::Methods::text_method))]
+fn is_empty(text: &str, arguments: &[Value]) -> Value
+    ensures { result ≡ given TextMethod.IsEmpty text.now arguments.now }
+{
+    alone(Value::boolean(text.is_empty()), arguments)
+}
+
+#[tactic(auto, unfolding(crate::specs::Methods::text_method))]
+fn equals(text: &str, arguments: &[Value]) -> Value
+    ensures { result ≡ given TextMethod.Equals text.now arguments.now }
+{
+    let Some(other) = only(arguments) else {
+        return Value::null();
+    };
+    match other.as_text() {
+        Some(other) => Value::boolean(text == other.as_str()),
+        None => Value::boolean(false),
+    }
+}
+
+#[tactic(auto, unfolding(crate::specs::Methods::text_method))]
+fn contains_text(text: &str, arguments: &[Value]) -> Value
+    ensures { result ≡ given TextMethod.Contains text.now arguments.now }
+{
+    match only_text(arguments) {
+        Some(part) => Value::boolean(contains(text, part.as_str())),
+        None => Value::null(),
+    }
+}
+
+#[tactic(auto, unfolding(crate::specs::Methods::text_method))]
+fn starts_with_text(text: &str, arguments: &[Value]) -> Value
+    ensures { result ≡ given TextMethod.StartsWith text.now arguments.now }
+{
+    match only_text(arguments) {
+        Some(part) => Value::boolean(starts_with(text, part.as_str())),
+        None => Value::null(),
+    }
+}
+
+#[tactic(auto, unfolding(crate::specs::Methods::text_method))]
+fn ends_with_text(text: &str, arguments: &[Value]) -> Value
+    ensures { result ≡ given TextMethod.EndsWith text.now arguments.now }
+{
+    match only_text(arguments) {
+        Some(part) => Value::boolean(ends_with(text, part.as_str())),
+        None => Value::null(),
+    }
+}
+
+#[tactic(auto, unfolding(crate::specs::Methods::text_method))]
+fn place_of(text: &str, arguments: &[Value]) -> Value
+    ensures { result ≡ given TextMethod.IndexOf text.now arguments.now }
+{
+    let Some(part) = only_text(arguments) else {
+        return Value::null();
+    };
+    match index_of(text, part.as_str()) {
+        Some(place) => counted(place),
+        None => Value::whole(-1),
+    }
+}
+
+#[tactic(auto, unfolding(crate::specs::Methods::text_method))]
+fn to_upper(alloc: Global, text: &str, arguments: &[Value]) -> Result<Value, Memory>
+    ensures { IfOk result (λ v. v ≡ given TextMethod.ToUpperCase text.now arguments.now) }
+{
+    if !arguments.is_empty() {
+        return Ok(Value::null());
+    }
+    text_value(upper(alloc, text)?)
+}
+
+#[tactic(auto, unfolding(crate::specs::Methods::text_method))]
+fn to_lower(alloc: Global, text: &str, arguments: &[Value]) -> Result<Value, Memory>
+    ensures { IfOk result (λ v. v ≡ given TextMethod.ToLowerCase text.now arguments.now) }
+{
+    if !arguments.is_empty() {
+        return Ok(Value::null());
+    }
+    text_value(lower(alloc, text)?)
+}
+
+#[tactic(auto, unfolding(crate::specs::Methods::text_method))]
+fn trimmed(alloc: Global, text: &str, arguments: &[Value]) -> Result<Value, Memory>
+    ensures { IfOk result (λ v. v ≡ given TextMethod.Trim text.now arguments.now) }
+{
+    if !arguments.is_empty() {
+        return Ok(Value::null());
+    }
+    part_value(alloc, trim(text))
+}
+
+#[tactic(auto, unfolding(crate::specs::Methods::text_method))]
+fn substring_at(alloc: Global, text: &str, arguments: &[Value]) -> Result<Value, Memory>
+    ensures { IfOk result (λ v. v ≡ given TextMethod.Substring text.now arguments.now) }
+{
+    match arguments {
+        [from] => part_from(alloc, text, from),
+        [from, to] => part_between(alloc, text, from, to),
+        _ => Ok(Value::null()),
+    }
+}
+
+fn part_from(alloc: Global, text: &str, from: &Value) -> Result<Value, Memory>
+    ensures { IfOk result (λ v. v ≡ at_whole (λ m. text_or_null (substring_from_of text.now m)) from.now) }
+{
+    match from.as_whole() {
+        Some(from) => text_or_nothing(alloc, substring_from(text, from)),
+        None => Ok(Value::null()),
+    }
+}
+
+fn part_between(alloc: Global, text: &str, from: &Value, to: &Value) -> Result<Value, Memory>
+    ensures { IfOk result (λ v. v ≡ at_whole (λ m. at_whole (λ n. text_or_null (substring_of text.now m n)) to.now) from.now) }
+{
+    let Some(from) = from.as_whole() else {
+        return Ok(Value::null());
+    };
+    let Some(to) = to.as_whole() else {
+        return Ok(Value::null());
+    };
+    text_or_nothing(alloc, substring(text, from, to))
+}
+
+fn text_or_nothing(alloc: Global, part: Option<&str>) -> Result<Value, Memory>
+    ensures { IfOk result (λ v. v ≡ text_or_null (option_map (λ p. p.now) part.entry)) }
+{
+    match part {
+        Some(part) => part_value(alloc, part),
+        None => Ok(Value::null()),
+    }
+}
+
+#[tactic(auto, unfolding(crate::specs::Methods::text_method))]
+fn replace_texts(alloc: Global, text: &str, arguments: &[Value], room: u64) -> Result<Value, Lack>
+    ensures { Answers room (given TextMethod.Replace text.now arguments.now) result }
+{
+    match two_texts(arguments) {
+        Some((from, to)) => replace_by(alloc, text, from.as_str(), to.as_str(), room),
+        None => Ok(Value::null()),
+    }
+}
+
+#[tactic(auto, unfolding(crate::specs::Methods::text_method))]
+fn replace_patterns(
+    alloc: Global,
+    text: &str,
+    arguments: &[Value],
+    room: u64,
+) -> Result<Value, Lack>
+    ensures { Answers room (given TextMethod.ReplaceAll text.now arguments.now) result }
+{
+    match two_texts(arguments) {
+        Some((pattern, to)) => replace_all(alloc, text, pattern.as_str(), to.as_str(), room),
+        None => Ok(Value::null()),
+    }
+}
+
+#[tactic(auto, unfolding(vtl_texts::specs::Places::replaced, vtl_texts::specs::Places::within))]
+fn replace_by(alloc: Global, text: &str, from: &str, to: &str, room: u64) -> Result<Value, Lack>
+    ensures { Answers room (text_or_null (replaced text.now from.now to.now)) result }
+{
+    if from.is_empty() {
+        return Ok(Value::null());
+    }
+    match replace(alloc, text, from, to, room)? {
+        Some(made) => Ok(text_value(made)?),
+        None => Err(Lack::Room),
+    }
+}
+
+fn replace_all(alloc: Global, text: &str, pattern: &str, to: &str, room: u64) -> Result<Value, Lack>
+    ensures { Answers room (replaced_all_of text.now pattern.now to.now) result }
+{
+    let Some(from) = literal(alloc, pattern)? else {
+        return Ok(Value::null());
+    };
+    let Some(to) = replacement(alloc, to)? else {
+        return Ok(Value::null());
+    };
+    replace_by(alloc, text, from.as_str(), to.as_str(), room)
+}
+
+#[tactic(auto, unfolding(crate::specs::Methods::text_method))]
+fn split_text(alloc: Global, text: &str, arguments: &[Value]) -> Result<Value, Memory>
+    ensures { IfOk result (λ v. v ≡ given TextMethod.Split text.now arguments.now) }
+{
+    match only_text(arguments) {
+        Some(pattern) => split_by(alloc, text, pattern.as_str()),
+        None => Ok(Value::null()),
+    }
+}
+
+fn split_by(alloc: Global, text: &str, pattern: &str) -> Result<Value, Memory>
+    ensures { IfOk result (λ v. v ≡ split_by_of text.now pattern.now) }
+{
+    let Some(at) = literal(alloc, pattern)? else {
+        return Ok(Value::null());
+    };
+    let parts = split(alloc, text, at.as_str())?;
+    list_of_texts(alloc, &parts)
+}
+
+fn list_of_texts(alloc: Global, parts: &[&str]) -> Result<Value, Memory>
+    ensures { IfOk result (λ v. v ≡ listed (map text_val (map (λ p. p.now) parts.now))) }
+{
+    let mut made = ListMaker::new(alloc);
+    for part in parts {
+        made.push(part_value(alloc, part)?)?;
+    }
+    made.close(alloc)
+}

@@ -1,0 +1,6 @@
+pub mod Depths
+pub mod Items
+pub mod Numbers
+pub mod Pieces
+pub mod Rows
+pub mod Wholes

@@ -105,6 +105,47 @@ fn templates_are_rendered(rt: HostRuntime) -> Result<(), Fail> {
     Ok(())
 }
 
+const FURTHER_ROWS: [(&str, &str, &str, u8); 6] = [
+    ("#set($a=1)#set($a=$none.b)$a", "", "1", 0),
+    ("$!x|$x|${x}y", "", "|$x|${x}y", 0),
+    (
+        "#set($x=1)#set($r=\"a $x ${x}b $!y $y\")$r",
+        "",
+        "a 1 1b  $y",
+        0,
+    ),
+    (
+        "#foreach($x in [1..3])$x#if($foreach.hasNext),#end#end",
+        "",
+        "1,2,3",
+        0,
+    ),
+    (
+        "#set($s='0123456789abcdef')#foreach($i in [1..21])#set($s=$s+$s)#end",
+        "",
+        "",
+        0,
+    ),
+    (
+        "#set($s='0123456789abcdef')#foreach($i in [1..22])#set($s=$s+$s)#end",
+        "",
+        "stop Bytes\n",
+        1,
+    ),
+];
+
+#[test]
+fn documented_templates_are_rendered(rt: HostRuntime) -> Result<(), Fail> {
+    let alloc = rt.alloc();
+    for (template, body, said, status) in &FURTHER_ROWS {
+        let mut outside = files(alloc, template.as_bytes(), body.as_bytes(), &[])?;
+        let (got, output) = rendered(alloc, &mut outside)?;
+        assert_eq!(rt; output.bytes(), said.as_bytes(), "at {template}");
+        assert_eq!(rt; got, *status, "at {template}");
+    }
+    Ok(())
+}
+
 #[test]
 fn loops_end_at_the_budget(rt: HostRuntime) -> Result<(), Fail> {
     let alloc = rt.alloc();

@@ -1,0 +1,4 @@
+mod Placed
+mod Rows
+mod Utf8
+mod Values

@@ -1,0 +1,115 @@
+-- The values of $context and of $stageVariables.
+use Rattle.std.specs.Prelude.{ℕ, pos, false, List, Option, Some, None, if◌then◌else◌, codes}
+use Rattle.std.specs.Fmt.{decimal}
+use Rattle.std.specs.Str.{bytes_eq}
+use Rattle.vtl_eval.specs.Roots.{Stepped, name, place, method}
+use Rattle.vtl_values.specs.Kinds.{text_in}
+use Rattle.vtl_values.specs.Val.{Val, null, boolean, whole, text}
+use Rattle.gateway_vars.specs.Escapes.{hex_digits, json_string}
+use Rattle.gateway_vars.specs.Pairs.{Pairs, first_value, last_value, header_value}
+use Rattle.gateway_vars.specs.Target.{stage_path}
+use Rattle.gateway_vars.specs.Values.{text_or_null, name_or_null, only, both}
+use Rattle.gateway_vars.specs.declared.request.Request.{Request}
+use Rattle.gateway_vars.specs.declared.request.CallFacts.{CallFacts}
+use Rattle.gateway_vars.specs.declared.request.Claims.{Claims}
+use Rattle.gateway_vars.specs.declared.request.Refusal.{Refusal}
+
+-- AWS: "$context variables". Those of one name: of the request,
+abbrev pub of_request : Request → List ℕ → Val
+of_request r x =
+    if bytes_eq x (codes "httpMethod") then text r.method
+    else if bytes_eq x (codes "path") then text (stage_path r.target)
+    else null
+
+-- and of the call: the request's number has 16 hexadecimal digits in lower case, the deployment's is a text
+abbrev pub of_call : Request → CallFacts → List ℕ → Val
+of_call r f x =
+    if bytes_eq x (codes "requestId") then text (hex_digits false 16 f.place)
+    else if bytes_eq x (codes "requestTimeEpoch") then whole (pos f.at)
+    else if bytes_eq x (codes "deploymentId") then text (decimal f.deployment)
+    else if bytes_eq x (codes "isCanaryRequest") then boolean f.canary
+    else of_request r x
+
+unfoldable pub context_named : Request → CallFacts → List ℕ → Val
+context_named r f x =
+    if bytes_eq x (codes "apiId") then text f.api
+    else if bytes_eq x (codes "stage") then text f.stage
+    else if bytes_eq x (codes "resourcePath") then text f.resource
+    else of_call r f x
+
+-- $context.identity
+unfoldable pub identity_named : Request → CallFacts → List ℕ → Val
+identity_named r f x =
+    if bytes_eq x (codes "apiKeyId") then name_or_null f.key
+    else if bytes_eq x (codes "sourceIp") then text (codes "127.0.0.1")
+    else if bytes_eq x (codes "userAgent") then text_or_null (header_value r.headers (codes "user-agent"))
+    else null
+
+-- $context.authorizer: the principal, and the texts of the policy's context
+abbrev pub claim_of : Option Claims → List ℕ → Val
+claim_of None x = null
+claim_of (Some c) x = if bytes_eq x (codes "principalId") then text c.principal else text_or_null (first_value c.context x)
+
+unfoldable pub claim_named : CallFacts → List ℕ → Val
+claim_named f x = claim_of f.claims x
+
+-- $context.error, where the gateway answers itself
+abbrev pub refusal_of : Option Refusal → List ℕ → Val
+refusal_of None x = null
+refusal_of (Some e) x =
+    if bytes_eq x (codes "message") then text e.message
+    else if bytes_eq x (codes "messageString") then text (json_string e.message)
+    else if bytes_eq x (codes "responseType") then text e.kind
+    else null
+
+unfoldable pub refusal_named : CallFacts → List ℕ → Val
+refusal_named f x = refusal_of f.refusal x
+
+-- those of two names
+abbrev pub context_part : Request → CallFacts → List ℕ → List ℕ → Val
+context_part r f group x =
+    if bytes_eq group (codes "identity") then identity_named r f x
+    else if bytes_eq group (codes "authorizer") then claim_named f x
+    else if bytes_eq group (codes "error") then refusal_named f x
+    else null
+
+-- an override is null when it is read, and so is every other name
+abbrev pub context_one : Request → CallFacts → Stepped → Val
+context_one r f (name x) = context_named r f x
+context_one r f (place v) = null
+context_one r f (method m vs) = null
+
+abbrev pub context_below : Request → CallFacts → List ℕ → Stepped → Val
+context_below r f group (name x) = context_part r f group x
+context_below r f group (place v) = null
+context_below r f group (method m vs) = null
+
+abbrev pub context_two : Request → CallFacts → Stepped → Stepped → Val
+context_two r f (name group) t = context_below r f group t
+context_two r f (place v) t = null
+context_two r f (method m vs) t = null
+
+abbrev pub context_by : Request → CallFacts → Option Stepped → Option (Stepped × Stepped) → Val
+context_by r f (Some s) steps = context_one r f s
+context_by r f None (Some steps) = context_two r f steps.0 steps.1
+context_by r f None None = null
+
+unfoldable pub context_value : Request → CallFacts → List Stepped → Val
+context_value r f path = context_by r f (only path) (both path)
+
+-- $stageVariables.NAME and ['NAME']
+abbrev pub variable_of : Pairs → Option (List ℕ) → Val
+variable_of ps None = null
+variable_of ps (Some x) = text_or_null (last_value ps x)
+
+abbrev pub variable_step : Pairs → Stepped → Val
+variable_step ps (name x) = text_or_null (last_value ps x)
+variable_step ps (place v) = variable_of ps (text_in v)
+variable_step ps (method m vs) = null
+
+abbrev pub variable_by : Pairs → Option Stepped → Val
+variable_by ps None = null
+variable_by ps (Some s) = variable_step ps s
+
+unfoldable pub variable_value : CallFacts → List Stepped → Val
+variable_value f path = variable_by f.variables (only path)

@@ -1,0 +1,39 @@
+-- What the roots of a template are made from, and what they mean.
+use Rattle.std.specs.Prelude.{ℕ, List}
+use Rattle.resource_tree.specs.declared.found.Found.{Found}
+use Rattle.vtl_eval.specs.Roots.{Stepped}
+use Rattle.vtl_eval.specs.declared.roots.Root.{Root}
+use Rattle.vtl_eval.specs.declared.roots.Root.TheVariants as roots
+use Rattle.vtl_values.specs.Val.{Val}
+use Rattle.gateway_vars.specs.Facts.{context_value, variable_value}
+use Rattle.gateway_vars.specs.Input.{Params, input_value}
+use Rattle.gateway_vars.specs.Target.{query_pairs}
+use Rattle.gateway_vars.specs.Util.{util_value}
+use Rattle.gateway_vars.specs.declared.request.Request.{Request}
+use Rattle.gateway_vars.specs.declared.request.WireReply.{WireReply}
+use Rattle.gateway_vars.specs.declared.request.CallFacts.{CallFacts}
+
+-- the body that $input speaks of, the request with its parameters, and the facts of the call
+pub record Held : Type 0 where
+  pub body : List ℕ
+  pub params : Params
+  pub request : Request
+  pub facts : CallFacts
+
+abbrev pub params_of : Request → Found → Params
+params_of request found = record { path = found.params; query = query_pairs request.target; header = request.headers }
+
+-- in the template of a request the body is the request's,
+abbrev pub asked : Request → Found → CallFacts → Held
+asked request found facts = record { body = request.body; params = params_of request found; request = request; facts = facts }
+
+-- and in that of a response the reply's; the parameters are the request's there too
+abbrev pub replied : Request → Found → CallFacts → WireReply → Held
+replied request found facts reply = record { body = reply.body; params = params_of request found; request = request; facts = facts }
+
+-- the value of each path below a root
+abbrev pub root : Held → Root → List Stepped → Val
+root held roots.Input path = input_value held.body held.params path
+root held roots.Context path = context_value held.request held.facts path
+root held roots.Util path = util_value path
+root held roots.StageVariables path = variable_value held.facts path

@@ -1,0 +1,26 @@
+-- The program's roots, and what they mean.
+use Rattle.vtl_eval.specs.Roots.{Meanings, Kept}
+use Rattle.gateway_vars.specs.Held.{Held, root}
+use Rattle.gateway_vars.specs.Rows.{kept_of}
+use Rattle.gateway_vars.specs.Writing.{writable}
+use Rattle.gateway_vars.specs.declared.roots.RequestRoots.{RequestRoots}
+use Rattle.gateway_vars.specs.declared.roots.ResponseRoots.{ResponseRoots}
+use Rattle.gateway_vars.specs.declared.slots.Side.{Side}
+
+-- the value of each path below a root, and the paths that may be written
+abbrev pub meanings_of : Side → Held → Meanings
+meanings_of side held = record { value = root held; writable = writable side }
+
+-- what a request's roots are made from, and what was written
+abbrev pub request_held : RequestRoots → Held
+request_held r = r.sources
+
+abbrev pub request_kept : RequestRoots → Kept
+request_kept r = kept_of r.rows.items
+
+-- and a response's
+abbrev pub response_held : ResponseRoots → Held
+response_held r = r.sources
+
+abbrev pub response_kept : ResponseRoots → Kept
+response_kept r = kept_of r.rows.items

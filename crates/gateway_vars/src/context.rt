@@ -1,0 +1,263 @@
+// The values of `$context` and of `$stageVariables`.
+ghost use Rattle.std.specs.Prelude.{◌≡◌, ◌<◌, ◌^◌, IfOk, map, false};
+ghost use Rattle.std.specs.Fmt.{decimal};
+ghost use Rattle.vtl_eval.specs.Views.{stepped_of};
+ghost use Rattle.vtl_values.specs.Val.{text as text_val};
+ghost use Rattle.gateway_vars.specs.Escapes.{hex_digits};
+ghost use Rattle.gateway_vars.specs.Pairs.{last_value as last_of};
+ghost use Rattle.gateway_vars.specs.Values.{text_or_null};
+ghost use Rattle.gateway_vars.specs.Facts.{of_request as of_request_of, of_call as of_call_of, context_named as context_named_of, identity_named as identity_named_of, claim_named as claim_named_of, refusal_named as refusal_named_of, context_part as context_part_of, context_one as context_one_of, context_two as context_two_of, context_below as context_below_of, context_value as context_value_of, variable_step as variable_step_of, variable_value as variable_value_of};
+
+use crate::escapes::{json_string, push_digits};
+use crate::pairs::{first_value, header_value, last_value};
+use crate::request::{CallFacts, Request};
+use crate::steps::{both_steps, only_step};
+use crate::target::stage_path;
+use crate::texts::{found_value, made_value, name_value, text_value};
+use gw_base::{Memory, Text};
+use itoa::Buffer;
+use std::alloc::Global;
+use vtl_eval::Step;
+use vtl_values::Value;
+
+fn of_request(alloc: Global, request: &Request, name: &str) -> Result<Value, Memory>
+    ensures { IfOk result (λ v. v ≡ of_request_of request.now name.now) }
+{
+    if name == "httpMethod" {
+        text_value(alloc, request.method.as_str())
+    } else if name == "path" {
+        made_value(stage_path(alloc, request.target.as_str())?)
+    } else {
+        Ok(Value::null())
+    }
+}
+
+fn request_number(alloc: Global, place: u64) -> Result<Value, Memory>
+    ensures { IfOk result (λ v. v ≡ text_val (hex_digits false 16 place)) }
+{
+    let mut made = String::new(alloc);
+    push_digits(&mut made, place, 16, false)?;
+    made_value(made)
+}
+
+fn deployment_number(alloc: Global, deployment: u32) -> Result<Value, Memory>
+    ensures { IfOk result (λ v. v ≡ text_val (decimal deployment)) }
+{
+    let mut buffer = Buffer::new();
+    text_value(alloc, buffer.format(deployment))
+}
+
+fn of_call(alloc: Global, request: &Request, facts: &CallFacts, name: &str) -> Result<Value, Memory>
+    requires { facts.now.at < 2 ^ 63 }
+    ensures { IfOk result (λ v. v ≡ of_call_of request.now facts.now name.now) }
+{
+    if name == "requestId" {
+        request_number(alloc, facts.place)
+    } else if name == "requestTimeEpoch" {
+        Ok(Value::whole(facts.at as i64))
+    } else if name == "deploymentId" {
+        deployment_number(alloc, facts.deployment)
+    } else if name == "isCanaryRequest" {
+        Ok(Value::boolean(facts.canary))
+    } else {
+        of_request(alloc, request, name)
+    }
+}
+
+#[tactic(auto, unfolding(crate::specs::Facts::context_named))]
+fn context_named(
+    alloc: Global,
+    request: &Request,
+    facts: &CallFacts,
+    name: &str,
+) -> Result<Value, Memory>
+    requires { facts.now.at < 2 ^ 63 }
+    ensures { IfOk result (λ v. v ≡ context_named_of request.now facts.now name.now) }
+{
+    if name == "apiId" {
+        text_value(alloc, facts.api.as_str())
+    } else if name == "stage" {
+        text_value(alloc, facts.stage.as_str())
+    } else if name == "resourcePath" {
+        text_value(alloc, facts.resource.as_str())
+    } else {
+        of_call(alloc, request, facts, name)
+    }
+}
+
+#[tactic(auto, unfolding(crate::specs::Facts::identity_named))]
+fn identity_named(
+    alloc: Global,
+    request: &Request,
+    facts: &CallFacts,
+    name: &str,
+) -> Result<Value, Memory>
+    ensures { IfOk result (λ v. v ≡ identity_named_of request.now facts.now name.now) }
+{
+    if name == "apiKeyId" {
+        name_value(alloc, facts.key.as_ref())
+    } else if name == "sourceIp" {
+        text_value(alloc, "127.0.0.1")
+    } else if name == "userAgent" {
+        found_value(
+            alloc,
+            header_value(request.headers.as_slice(), "user-agent"),
+        )
+    } else {
+        Ok(Value::null())
+    }
+}
+
+#[tactic(auto, unfolding(crate::specs::Facts::claim_named))]
+fn claim_named(alloc: Global, facts: &CallFacts, name: &str) -> Result<Value, Memory>
+    ensures { IfOk result (λ v. v ≡ claim_named_of facts.now name.now) }
+{
+    match &facts.claims {
+        Some(claims) => {
+            if name == "principalId" {
+                text_value(alloc, claims.principal.as_str())
+            } else {
+                found_value(alloc, first_value(claims.context.as_slice(), name))
+            }
+        }
+        None => Ok(Value::null()),
+    }
+}
+
+#[tactic(auto, unfolding(crate::specs::Facts::refusal_named))]
+fn refusal_named(alloc: Global, facts: &CallFacts, name: &str) -> Result<Value, Memory>
+    ensures { IfOk result (λ v. v ≡ refusal_named_of facts.now name.now) }
+{
+    match &facts.refusal {
+        Some(refusal) => {
+            if name == "message" {
+                text_value(alloc, refusal.message.as_str())
+            } else if name == "messageString" {
+                made_value(json_string(alloc, refusal.message.as_str())?)
+            } else if name == "responseType" {
+                text_value(alloc, refusal.kind.as_str())
+            } else {
+                Ok(Value::null())
+            }
+        }
+        None => Ok(Value::null()),
+    }
+}
+
+fn context_part(
+    alloc: Global,
+    request: &Request,
+    facts: &CallFacts,
+    group: &str,
+    name: &str,
+) -> Result<Value, Memory>
+    ensures { IfOk result (λ v. v ≡ context_part_of request.now facts.now group.now name.now) }
+{
+    if group == "identity" {
+        identity_named(alloc, request, facts, name)
+    } else if group == "authorizer" {
+        claim_named(alloc, facts, name)
+    } else if group == "error" {
+        refusal_named(alloc, facts, name)
+    } else {
+        Ok(Value::null())
+    }
+}
+
+fn context_one(
+    alloc: Global,
+    request: &Request,
+    facts: &CallFacts,
+    step: &Step,
+) -> Result<Value, Memory>
+    requires { facts.now.at < 2 ^ 63 }
+    ensures { IfOk result (λ v. v ≡ context_one_of request.now facts.now (stepped_of step.now)) }
+{
+    match step {
+        Step::Name(name) => context_named(alloc, request, facts, name.as_str()),
+        Step::Index(_) => Ok(Value::null()),
+        Step::Call(_, _) => Ok(Value::null()),
+    }
+}
+
+fn context_two(
+    alloc: Global,
+    request: &Request,
+    facts: &CallFacts,
+    step: &Step,
+    behind: &Step,
+) -> Result<Value, Memory>
+    ensures { IfOk result (λ v. v ≡ context_two_of request.now facts.now (stepped_of step.now) (stepped_of behind.now)) }
+{
+    match step {
+        Step::Name(group) => context_below(alloc, request, facts, group.as_str(), behind),
+        Step::Index(_) => Ok(Value::null()),
+        Step::Call(_, _) => Ok(Value::null()),
+    }
+}
+
+fn context_below(
+    alloc: Global,
+    request: &Request,
+    facts: &CallFacts,
+    group: &str,
+    step: &Step,
+) -> Result<Value, Memory>
+    ensures { IfOk result (λ v. v ≡ context_below_of request.now facts.now group.now (stepped_of step.now)) }
+{
+    match step {
+        Step::Name(name) => context_part(alloc, request, facts, group, name.as_str()),
+        Step::Index(_) => Ok(Value::null()),
+        Step::Call(_, _) => Ok(Value::null()),
+    }
+}
+
+/// The value of a path below `$context`.
+#[tactic(auto, unfolding(crate::specs::Facts::context_value))]
+pub fn context_value(
+    alloc: Global,
+    request: &Request,
+    facts: &CallFacts,
+    path: &[Step],
+) -> Result<Value, Memory>
+    requires { facts.now.at < 2 ^ 63 }
+    ensures { IfOk result (λ v. v ≡ context_value_of request.now facts.now (map stepped_of path.now)) }
+{
+    match only_step(path) {
+        Some(step) => context_one(alloc, request, facts, step),
+        None => match both_steps(path) {
+            Some((step, behind)) => context_two(alloc, request, facts, step, behind),
+            None => Ok(Value::null()),
+        },
+    }
+}
+
+fn variable(alloc: Global, variables: &[(Text, Text)], name: &str) -> Result<Value, Memory>
+    ensures { IfOk result (λ v. v ≡ text_or_null (last_of variables.now name.now)) }
+{
+    found_value(alloc, last_value(variables, name))
+}
+
+fn variable_step(alloc: Global, variables: &[(Text, Text)], step: &Step) -> Result<Value, Memory>
+    ensures { IfOk result (λ v. v ≡ variable_step_of variables.now (stepped_of step.now)) }
+{
+    match step {
+        Step::Name(name) => variable(alloc, variables, name.as_str()),
+        Step::Index(value) => match value.as_text() {
+            Some(name) => variable(alloc, variables, name.as_str()),
+            None => Ok(Value::null()),
+        },
+        Step::Call(_, _) => Ok(Value::null()),
+    }
+}
+
+/// The value of a path below `$stageVariables`.
+#[tactic(auto, unfolding(crate::specs::Facts::variable_value))]
+pub fn variable_value(alloc: Global, facts: &CallFacts, path: &[Step]) -> Result<Value, Memory>
+    ensures { IfOk result (λ v. v ≡ variable_value_of facts.now (map stepped_of path.now)) }
+{
+    match only_step(path) {
+        Some(step) => variable_step(alloc, facts.variables.as_slice(), step),
+        None => Ok(Value::null()),
+    }
+}

@@ -42,7 +42,7 @@ impl<'a> RequestRoots<'a> {
         })
     }
 
-    /// What was written, printed: the last value of a name, in the place of its first.
+    /// What was written, printed, as `overridden` says: by parts and names, a header name in lower case.
     pub fn overrides(self, alloc: Global) -> Result<Overrides, Memory>
         ensures { IfOk result (λ made. made ≡ overridden_of sides.Request (request_kept self.entry)) }
     {
@@ -101,7 +101,7 @@ impl<'a> ResponseRoots<'a> {
         })
     }
 
-    /// What was written, printed: the last value of a name, in the place of its first.
+    /// What was written, printed, as `overridden` says: by parts and names, a header name in lower case.
     pub fn overrides(self, alloc: Global) -> Result<Overrides, Memory>
         ensures { IfOk result (λ made. made ≡ overridden_of sides.Response (response_kept self.entry)) }
     {

@@ -1,30 +1,12 @@
-// A request, a reply, and what the gateway knows of a call.
-use gw_base::{Bytes, Name, Seq, Text};
+// What the gateway knows of a call.
+use crate::kind::Kind;
+use gw_base::{Name, Seq, Shared, Text};
 
-/// A request as it was read (RFC 9112, section 3).
+/// The variables of a stage, names and values in the order in which they were handed in. Of a repeated name the last
+/// value counts.
 #[derive(Drop)]
-pub struct Request {
-    /// Its method, as it is written.
-    pub method: Text,
-    /// Its target, as it is written.
-    pub target: Text,
-    /// Whether its version is HTTP/1.0.
-    pub http10: bool,
-    /// The names and values of its header fields, in their order.
-    pub headers: Seq<(Text, Text)>,
-    /// Its body.
-    pub body: Bytes,
-}
-
-/// What a backend replied (RFC 9112, section 4).
-#[derive(Drop)]
-pub struct WireReply {
-    /// Its status.
-    pub status: u16,
-    /// The names and values of its header fields, in their order.
-    pub headers: Seq<(Text, Text)>,
-    /// Its body.
-    pub body: Bytes,
+pub struct Vars {
+    pub pairs: Seq<(Text, Text)>,
 }
 
 /// What the policy of an authorizer says of the caller.
@@ -39,14 +21,13 @@ pub struct Claims {
 /// Why the gateway answers in place of the backend.
 #[derive(Drop)]
 pub struct Refusal {
-    /// The kind of the gateway's answer, as it is printed.
-    pub kind: Text,
+    /// The kind of the gateway's answer.
+    pub kind: Kind,
     /// The message.
     pub message: Text,
 }
 
 /// What the gateway knows of a call.
-#[derive(Drop)]
 pub struct CallFacts {
     /// The API.
     pub api: Text,
@@ -60,8 +41,8 @@ pub struct CallFacts {
     pub deployment: u32,
     /// Whether the stage's canary was taken.
     pub canary: bool,
-    /// The stage variables. Of a repeated name the last value counts.
-    pub variables: Seq<(Text, Text)>,
+    /// The stage variables.
+    pub variables: Shared<Vars>,
     /// The path of the resource, as it is defined.
     pub resource: Text,
     /// The key that was admitted.
@@ -70,4 +51,23 @@ pub struct CallFacts {
     pub claims: Option<Claims>,
     /// Why the gateway answers itself.
     pub refusal: Option<Refusal>,
+}
+
+// Written by hand, so that a function that lets a value go makes one call.
+impl Drop for CallFacts {
+    fn drop(self) {
+        let CallFacts {
+            api: _,
+            stage: _,
+            place: _,
+            at: _,
+            deployment: _,
+            canary: _,
+            variables: _,
+            resource: _,
+            key: _,
+            claims: _,
+            refusal: _,
+        } = self;
+    }
 }

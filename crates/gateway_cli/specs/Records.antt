@@ -1,5 +1,5 @@
 -- The records of a script.
-use Rattle.std.specs.Prelude.{ℕ, ◌==◌, nat_lt, Bool, not, ◌&&◌, ◌||◌, List, [], ◌∷◌, length, codes, Option, Some, None, if◌then◌else◌, Result, Ok, Err}
+use Rattle.std.specs.Prelude.{ℕ, ◌==◌, ◌+◌, nat_lt, Bool, not, ◌&&◌, ◌||◌, List, [], ◌∷◌, length, take, drop, position, codes, Option, Some, None, if◌then◌else◌, Result, Ok, Err}
 use Rattle.std.specs.Option.{option_and_then, option_map}
 use Rattle.std.specs.Str.{bytes_eq}
 use Rattle.book_core.specs.Names.{is_name}
@@ -34,8 +34,7 @@ deploy_record m a = do
 
 -- what stands before the first `=` and behind it
 abbrev pub parted : List ℕ → Option (List ℕ × List ℕ)
-parted [] = None
-parted (b ∷ rest) = if b == 61 then Some ([], rest) else option_map (λ p. (b ∷ p.0, p.1)) (parted rest)
+parted field = option_map (λ at. (take at field, drop (at + 1) field)) (position (λ b. b == 61) field)
 
 -- a variable of a stage, `name=value`, both of which are texts
 abbrev pub variable_of : List ℕ → Option (List ℕ × List ℕ)

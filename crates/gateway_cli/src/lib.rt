@@ -68,6 +68,8 @@ mod case_tests;
 #[cfg(test)]
 mod render_tests;
 #[cfg(test)]
+mod roots_tests;
+#[cfg(test)]
 mod template_tests;
 #[cfg(test)]
 mod tests;

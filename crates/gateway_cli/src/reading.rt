@@ -1,5 +1,5 @@
 // The record of a line.
-ghost use Rattle.std.specs.Prelude.{◌≡◌, ◌≢◌, Ok, Err, IfOk, IfErr, OnOk};
+ghost use Rattle.std.specs.Prelude.{◌≡◌, ◌≢◌, ◌==◌, ◌<◌, length, position, Ok, Err, IfOk, IfErr, IfSome, OnOk};
 ghost use Rattle.std.specs.Option.{option_map};
 ghost use Rattle.gateway_cli.specs.Records.{parted as parted_of, variable_of, variables_of, called as called_of, text_record as text_record_of, deploy_record as deploy_record_of, stage_record as stage_record_of, post_record as post_record_of, text_fields as text_fields_of, deploy_fields as deploy_fields_of, stage_fields as stage_fields_of, post_fields as post_fields_of, is_held_back as is_held_back_of, record_of as record_of_fields, record_in as record_in_line};
 
@@ -53,12 +53,21 @@ fn deploy_record(alloc: Global, moment: &[u8], api: &[u8]) -> Result<Reading, Al
     Ok(Ok(Record::Deploy { moment, api }))
 }
 
+fn equals_at(field: &[u8]) -> Option<usize>
+    ensures value { result ≡ position (λ b. b == 61) field.now }
+    ensures bound { IfSome result (λ at. at < length field.now) }
+{
+    field.iter().position(|b| *b == b'=')
+}
+
 // What stands before the first `=` and behind it.
 fn parted(field: &[u8]) -> Option<(&[u8], &[u8])>
     ensures { option_map (λ p. (p.0.now, p.1.now)) result ≡ parted_of field.now }
 {
-    let at = field.iter().position(|b| *b == b'=')?;
-    Some((&field[..at], &field[at + 1..]))
+    match equals_at(field) {
+        Some(at) => Some((&field[..at], &field[at + 1..])),
+        None => None,
+    }
 }
 
 fn variable(alloc: Global, field: &[u8]) -> Result<Option<(Text, Text)>, AllocError>

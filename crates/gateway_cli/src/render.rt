@@ -1,5 +1,5 @@
 // What the command `render` prints of its two files.
-ghost use Rattle.std.specs.Prelude.{◌≡◌, [], true, Some, Ok, Err, IfOk};
+ghost use Rattle.std.specs.Prelude.{◌≡◌, ◌<◌, [], true, Some, Ok, Err, IfOk};
 ghost use Rattle.vtl_eval.specs.Meaning.{rendering};
 ghost use Rattle.vtl_grammar.specs.Templates.{read_of, tree_of};
 ghost use Rattle.gateway_cli.specs.Answers.{budget};
@@ -10,6 +10,7 @@ ghost use Rattle.gateway_cli.specs.Requests.{meanings_at, render_request as rend
 use crate::answers::BUDGET;
 use crate::joined::joined;
 use crate::requests::{nothing_found, render_facts, render_request};
+use call_facts::{CallFacts, Request};
 use gateway_vars::RequestRoots;
 use gw_base::{Bytes, Memory, Text};
 use std::alloc::Global;
@@ -47,17 +48,21 @@ fn stopped(alloc: Global, stop: Stop) -> Result<Shown, Memory>
     })
 }
 
-// Renders a template over a request with this body.
-#[tactic(auto, unfolding(crate::specs::Answers::budget, crate::specs::Requests::render_facts))]
-fn shown_over(alloc: Global, template: &Template, body: &[u8]) -> Result<Shown, Memory>
-    ensures output { IfOk result (λ shown. shown_of (rendering budget (meanings_at (render_request_of body.now) render_facts_of) (tree_of template.now) [])
+// Renders a template over a request and its call.
+#[tactic(auto, unfolding(crate::specs::Answers::budget))]
+fn shown_at(
+    alloc: Global,
+    template: &Template,
+    request: &Request,
+    facts: &CallFacts,
+) -> Result<Shown, Memory>
+    requires { facts.now.at < 4102444800000 }
+    ensures output { IfOk result (λ shown. shown_of (rendering budget (meanings_at request.now facts.now) (tree_of template.now) [])
         ≡ record { text = shown.text; status = shown.status }) }
     ensures known { IfOk result (λ shown. is_command_status shown.status ≡ true) }
 {
-    let request = render_request(alloc, body)?;
-    let facts = render_facts(alloc)?;
     let found = nothing_found(alloc);
-    let mut roots = RequestRoots::new(alloc, &request, &found, &facts)?;
+    let mut roots = RequestRoots::new(alloc, request, &found, facts)?;
     match render(alloc, template, &mut roots, BUDGET) {
         Ok(rendered) => Ok(Shown {
             text: rendered.text,
@@ -66,6 +71,18 @@ fn shown_over(alloc: Global, template: &Template, body: &[u8]) -> Result<Shown, 
         Err(Stop::Memory) => Err(Memory),
         Err(stop) => stopped(alloc, stop),
     }
+}
+
+// Renders a template over a request with this body.
+#[tactic(auto, unfolding(crate::specs::Requests::render_facts))]
+fn shown_over(alloc: Global, template: &Template, body: &[u8]) -> Result<Shown, Memory>
+    ensures output { IfOk result (λ shown. shown_of (rendering budget (meanings_at (render_request_of body.now) render_facts_of) (tree_of template.now) [])
+        ≡ record { text = shown.text; status = shown.status }) }
+    ensures known { IfOk result (λ shown. is_command_status shown.status ≡ true) }
+{
+    let request = render_request(alloc, body)?;
+    let facts = render_facts(alloc)?;
+    shown_at(alloc, template, &request, &facts)
 }
 
 // Reads a template and renders it over a body.

@@ -17,10 +17,19 @@ use vtl_eval::{Root, Roots, Step};
 use vtl_values::Value;
 
 /// The roots of a request's template.
-#[derive(Drop)]
 pub struct RequestRoots<'a> {
     sources: Sources<'a>,
     rows: Vec<Row>,
+}
+
+// Written by hand, so that a function that lets the roots go makes one call.
+impl<'a> Drop for RequestRoots<'a> {
+    fn drop(self) {
+        let RequestRoots {
+            sources: _,
+            rows: _,
+        } = self;
+    }
 }
 
 impl<'a> RequestRoots<'a> {
@@ -75,10 +84,19 @@ impl<'a> Roots for RequestRoots<'a> {
 }
 
 /// The roots of a response's template.
-#[derive(Drop)]
 pub struct ResponseRoots<'a> {
     sources: Sources<'a>,
     rows: Vec<Row>,
+}
+
+// Written by hand, so that a function that lets the roots go makes one call.
+impl<'a> Drop for ResponseRoots<'a> {
+    fn drop(self) {
+        let ResponseRoots {
+            sources: _,
+            rows: _,
+        } = self;
+    }
 }
 
 impl<'a> ResponseRoots<'a> {

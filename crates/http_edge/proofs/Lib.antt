@@ -4,3 +4,5 @@ pub mod Steps
 pub mod ReplySteps
 pub mod ReplyJoins
 pub mod Phrases
+pub mod NextUnique
+pub mod ReplyUnique

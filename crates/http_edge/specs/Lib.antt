@@ -2,6 +2,8 @@
 pub mod Answers
 -- what a buffer keeps between two calls
 pub mod Buffers
+-- what holds of messages and replies
+pub mod Laws
 -- the messages of a stream
 pub mod Messages
 -- what the steps of reading a message come to

@@ -4,6 +4,7 @@
 mod answer;
 mod buffer;
 mod incoming;
+pub mod laws;
 mod message;
 mod refusal;
 mod reply;

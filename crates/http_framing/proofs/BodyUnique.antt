@@ -18,12 +18,12 @@ abbrev pub Same : {T : Type 0} → Result T EdgeFault → Result T EdgeFault →
 Same a b x y = (a ≡ b) × OnOk a (x ≡ y)
 
 -- what is left behind an outcome is one
-on_ok : (a : Outcome) (x y : List ℕ) → x ≡ y → OnOk a (x ≡ y)
+pub on_ok : {T : Type 0} (a : Result T EdgeFault) (x y : List ℕ) → x ≡ y → OnOk a (x ≡ y)
 on_ok (Ok v) x y e = e
 on_ok (Err f) x y e = tt
 
-on_err : (a : Outcome) (f : EdgeFault) (x y : List ℕ) → a ≡ Err f → OnOk a (x ≡ y)
-on_err a f x y e = let O : Outcome → Type 0 = λ r. OnOk r (x ≡ y) in subst O (sym e) tt
+pub on_err : {T : Type 0} (a : Result T EdgeFault) (f : EdgeFault) (x y : List ℕ) → a ≡ Err f → OnOk a (x ≡ y)
+on_err {T} a f x y e = let O : Result T EdgeFault → Type 0 = λ r. OnOk r (x ≡ y) in subst O (sym e) tt
 
 -- ---- a known length, by three tests of which one holds
 

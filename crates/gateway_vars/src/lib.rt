@@ -75,7 +75,7 @@ pub use pairs::{first_value, header_value, last_value, same_name};
 pub use payload::Payload;
 pub use roots::{RequestRoots, ResponseRoots};
 pub use slots::{Part, Side, slot_of};
-pub use target::{query_pairs, stage_path};
+pub use target::{api_name, query_pairs, stage_name, stage_path};
 pub use util::util_value;
 
 #[cfg(test)]

@@ -35,4 +35,5 @@ mod talk;
 
 pub use answering::nothing_found;
 pub use ended::{Ended, Fullness};
+pub use feed::Feed;
 pub use talk::{Talk, connect};

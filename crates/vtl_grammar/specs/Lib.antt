@@ -17,6 +17,7 @@ pub mod Lines
 pub mod Fronts
 pub mod Directives
 pub mod Items
+pub mod Calls
 pub mod Templates
 pub mod Uses
 pub mod Grammar

@@ -66,6 +66,7 @@ word_of w.Break = says_word.Break
 word_of w.Stop = says_word.Stop
 word_of w.Define = says_word.Define
 word_of w.Refused = says_word.Refused
+word_of (w.Macro x) = says_word.Macro x.now
 
 abbrev pub words_option : Option Word → Option says_word.Word
 words_option None = None

@@ -1,8 +1,8 @@
 // The forms of directives, without their expressions.
 ghost use Rattle.std.specs.Prelude.{◌≡◌, MatchResult, Ok, Err};
 ghost use Rattle.vtl_grammar.specs.Bytes.{white as white_of, name_at as name_at_of};
-ghost use Rattle.vtl_grammar.specs.Directives.{form as form_of, form_name as form_name_of, bracket as bracket_of, is_root as is_root_of, goes_on as goes_on_of, left_of as left_of_spec, in_or, loop_variable as loop_variable_of, is_apart as is_apart_of};
-ghost use Rattle.vtl_words.specs.Views.{left_view, bad_form_at};
+ghost use Rattle.vtl_grammar.specs.Directives.{form as form_of, form_name as form_name_of, bracket as bracket_of, is_root as is_root_of, goes_on as goes_on_of, left_of as left_of_spec, in_or, loop_variable as loop_variable_of, is_apart as is_apart_of, between_of};
+ghost use Rattle.vtl_words.specs.Views.{left_view, between_view, bad_form_at};
 
 use crate::bytes::{blanks, is_white, name_at, white};
 use crate::names::Names;
@@ -19,6 +19,37 @@ pub enum Left {
     Refused,
     /// Another name.
     Free,
+}
+
+/// What stands behind an argument of a macro's call.
+#[derive(Drop)]
+pub enum Between<'a> {
+    /// The closing bracket, and what follows it.
+    Close(&'a [u8]),
+    /// A comma, and what follows it.
+    Comma(&'a [u8]),
+    /// White space alone, behind which an argument stands.
+    Space,
+    /// What does not go on.
+    Nothing,
+}
+
+/// What stands here behind an argument, where white space stood before or not.
+pub fn behind_argument(apart: bool, bs: &[u8]) -> Between<'_>
+    ensures { between_view result ≡ between_of apart bs.now }
+{
+    match bs {
+        [] => Between::Nothing,
+        [b')', rest @ ..] => Between::Close(rest),
+        [b',', rest @ ..] => Between::Comma(rest),
+        _ => {
+            if apart {
+                Between::Space
+            } else {
+                Between::Nothing
+            }
+        }
+    }
 }
 
 /// The fault where the form of the directive at this place does not go on.

@@ -182,6 +182,7 @@ fn item_uses_roots(arena: &Arena, k: usize) -> bool
         ItemNode::ForEach(_, e, items) => expr_uses_roots(arena, *e)
             || items_use_roots(arena, k, items),
         ItemNode::Define(_, _, items) => items_use_roots(arena, k, items),
+        ItemNode::MacroCall(_, _, ids) => ids_use_roots(arena, below, ids),
     }
 }
 

@@ -49,7 +49,7 @@ mod template;
 mod text;
 
 pub use arena::Arena;
-pub use macros::{Macros, macro_named};
+pub use macros::{Macros, macro_named, macro_of};
 pub use nodes::{Branch, ExprNode, ItemNode, Link, Pair, Part, Step, Target};
 pub use template::{LIMIT, Template, is_body};
 pub use vtl_grammar::TemplateFault;

@@ -1,8 +1,9 @@
 // The macros of a template by name, and the calls that have none.
 ghost use Rattle.std.specs.Prelude.{◌≡◌, ◌≤◌, ◌<◌, ℕ, List, length, Some, None, IfOk, OnOk, IfSome, MatchOption};
 ghost use Rattle.vtl_grammar.specs.Calls.{first_of, defined_as, macros_in, wrong_of as wrong_of_spec, wrong_call as wrong_call_spec, wrong_calls as wrong_calls_spec};
+ghost use Rattle.vtl_words.specs.Names.{place_of};
 ghost use Rattle.vtl_reader.specs.Nodes.{item_of, items_made, AllBelow, BranchesBelow};
-ghost use Rattle.vtl_reader.specs.Macros.{found_in, macros_by, wrong_heads, AreListed};
+ghost use Rattle.vtl_reader.specs.Macros.{defines, found_in, macros_by, wrong_heads, AreListed};
 
 use crate::arena::Arena;
 use crate::nodes::{Branch, ItemNode};
@@ -27,6 +28,20 @@ impl Model for Macros {
 }
 
 impl Macros {
+    /// The place of the macro of this name among them.
+    pub fn place(&self, name: &[u8]) -> Option<usize>
+        ensures { result ≡ place_of self.now.names name.now }
+    {
+        self.names.place(name)
+    }
+
+    /// The numbers of the items that define them.
+    pub fn ids(&self) -> &[usize]
+        ensures { result.now ≡ self.now.ids }
+    {
+        self.ids.as_slice()
+    }
+
     /// The number of the item that defines the macro of this name.
     pub fn find(&self, name: &[u8]) -> Option<usize>
         ensures { result ≡ found_in self.now name.now }
@@ -71,6 +86,18 @@ pub fn macros_of(alloc: Global, arena: &Arena, items: &[usize]) -> Result<Macros
     Ok(Macros { names, ids })
 }
 
+/// The parameters and the body of the macro that this item defines, if it does.
+pub fn macro_of(arena: &Arena, k: usize) -> Option<(&Names, &[usize])>
+    requires stands { k < length arena.now.items }
+    ensures found { MatchOption result (defines (item_of arena.now k) ≡ None) (λ p. defines (item_of arena.now k) ≡ Some (record { params = p.0.now; body = items_made (item_of arena.now) p.1.now })) }
+    ensures below { IfSome result (λ p. AllBelow (length arena.now.items) p.1.now) }
+{
+    match arena.item(k) {
+        ItemNode::Define(_, params, body) => Some((params, body.as_slice())),
+        _ => None,
+    }
+}
+
 /// The parameters and the body of the macro of this name.
 #[tactic(auto, using(crate::proofs::Listing::found_below))]
 pub fn macro_named<'a>(
@@ -83,10 +110,7 @@ pub fn macro_named<'a>(
     ensures below { IfSome result (λ p. AllBelow (length arena.now.items) p.1.now) }
 {
     let k = macros.find(name)?;
-    match arena.item(k) {
-        ItemNode::Define(_, params, body) => Some((params, body.as_slice())),
-        _ => None,
-    }
+    macro_of(arena, k)
 }
 
 // The place of a call with n arguments, unless its macro is there and takes that many.

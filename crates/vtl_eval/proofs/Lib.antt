@@ -5,6 +5,7 @@ pub mod Fronts
 pub mod Loops
 pub mod Names
 pub mod Passing
-
 pub mod Referring
 pub mod Marks
+pub mod Sequences
+pub mod Outermost

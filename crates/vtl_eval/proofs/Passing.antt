@@ -60,11 +60,11 @@ module _ (b : ℕ) (m : Meanings) where
         ∙ ap (λ o. after o (run b m (items_without calls (items_with a is)))) (item_idle i h.0 s)
         ∙ items_idle is h.1 s
 
+  body_idle : (calls : Called) (p : List ℕ → Bool) → ((x : List ℕ) → p x ≡ true → (es : Exprs) (s : State) → run b m (calls x es) s ≡ Ok (Ran, s)) → (o : Option Macro) → idle_body p o ≡ true → (es : Exprs) (s : State) → run b m (body_of (items_without calls) es o) s ≡ Ok (Ran, s)
+  body_idle calls p idle None e es s = absurd cc
+  body_idle calls p idle (Some d) e es s = items_idle calls p idle (arguments d.params es) d.body e s
+
   pub call_idle : (ms : Macros) (n : ℕ) (x : List ℕ) → idle_call ms n x ≡ true → (es : Exprs) (s : State) → run b m (called ms n x es) s ≡ Ok (Ran, s)
   unfolding idle_call called
   call_idle ms zero x e es s = absurd cc
-  call_idle ms (suc n) x e es s = go (ms x) e
-    where
-      go : (o : Option Macro) → idle_body (idle_call ms n) o ≡ true → run b m (body_of (items_without (called ms n)) es o) s ≡ Ok (Ran, s)
-      go None f = absurd cc
-      go (Some d) f = items_idle (called ms n) (idle_call ms n) (call_idle ms n) (arguments d.params es) d.body f s
+  call_idle ms (suc n) x e es s = body_idle (called ms n) (idle_call ms n) (call_idle ms n) (ms x) e es s

@@ -1,8 +1,8 @@
 // Items.
 ghost use Rattle.std.specs.Prelude.{◌≡◌, ◌≤◌, ◌<◌, IsTrue, length, Ok, IfOk, OnOk};
-ghost use Rattle.vtl_grammar.specs.Tree.{foreach, choose as choose_item};
-ghost use Rattle.vtl_grammar.specs.Expanded.{exprs_with, called, most_inside};
-ghost use Rattle.vtl_reader.specs.Nodes.{expr_of, exprs_made, item_of, items_made, branches_made, target_of, AllBelow, BranchesBelow};
+ghost use Rattle.vtl_grammar.specs.Tree.{named, output, set, foreach, choose as choose_item};
+ghost use Rattle.vtl_grammar.specs.Expanded.{base_with, exprs_with, steps_with, called, most_inside};
+ghost use Rattle.vtl_reader.specs.Nodes.{expr_of, exprs_made, item_of, items_made, branches_made, target_of, AllBelow, BranchesBelow, StepsBelow, steps_made};
 ghost use Rattle.vtl_reader.specs.Macros.{macros_by};
 ghost use Rattle.vtl_values.specs.Parts.{loop_items};
 ghost use Rattle.vtl_eval.specs.Meaning.{meaning, run as run_of, chosen, turns, turned, restored, over as over_of, assigned};
@@ -18,7 +18,7 @@ use crate::run::{Run, Turn, find, set_name, show, spend, write};
 use crate::stop::{Ended, Fail, Limit};
 use gw_base::Memory;
 use std::alloc::Global;
-use vtl_reader::{Arena, Branch, ItemNode, Macros, Target, macro_named};
+use vtl_reader::{Arena, Branch, ItemNode, Macros, Step, Target, macro_named};
 use vtl_values::{Value, loop_item, loop_length};
 
 // A `#set`.
@@ -86,6 +86,57 @@ fn over(ended: Ended) -> Ended
     }
 }
 
+// A reference in text.
+fn run_output<'a, R: Roots>(
+    alloc: Global,
+    roots: &mut R,
+    arena: &Arena,
+    frame: &'a Frame<'a>,
+    budget: u64,
+    run: &mut Run,
+    source: &str,
+    name: &str,
+    steps: &[Step],
+) -> Result<Ended, Fail>
+    requires frame { IsTrue (is_sound (length arena.now.exprs) frame.now) }
+    requires steps { StepsBelow (length arena.now.exprs) steps.now }
+    ensures gives { Gives (λ e. e) result (scene_of run.new) (R.kept roots.new) (meaning budget (R.meanings roots.old) (output source.now (base_with (arguments_of arena.now.exprs frame.now) (named name.now)) (steps_with (arguments_of arena.now.exprs frame.now) (steps_made (expr_of arena.now.exprs) steps.now))) (scene_of run.old, R.kept roots.old)) }
+    ensures same { R.meanings roots.new ≡ R.meanings roots.old }
+{
+    spend(budget, run)?;
+    let below = arena.expr_count();
+    let v = match refer(alloc, roots, arena, frame, budget, run, name, steps, below) {
+        Ok(v) => v,
+        Err(e) => return Err(e),
+    };
+    match show(run, source, &v) {
+        Ok(()) => Ok(Ended::Ran),
+        Err(e) => Err(e),
+    }
+}
+
+// A `#set`.
+fn run_set<'a, R: Roots>(
+    alloc: Global,
+    roots: &mut R,
+    arena: &Arena,
+    frame: &'a Frame<'a>,
+    budget: u64,
+    run: &mut Run,
+    target: &Target,
+    e: usize,
+) -> Result<Ended, Fail>
+    requires frame { IsTrue (is_sound (length arena.now.exprs) frame.now) }
+    requires stands { e < length arena.now.exprs }
+    ensures gives { Gives (λ e. e) result (scene_of run.new) (R.kept roots.new) (meaning budget (R.meanings roots.old) (set (target_of target.now) (seen arena.now.exprs frame.now e)) (scene_of run.old, R.kept roots.old)) }
+    ensures same { R.meanings roots.new ≡ R.meanings roots.old }
+{
+    spend(budget, run)?;
+    let v = eval(alloc, roots, arena, frame, budget, run, e)?;
+    assign(alloc, roots, run, target, v)?;
+    Ok(Ended::Ran)
+}
+
 // The item with this number.
 #[cycle(items)]
 fn run_item<'a, R: Roots>(
@@ -115,28 +166,18 @@ fn run_item<'a, R: Roots>(
             Ok(Ended::Ran)
         }
         ItemNode::Comment => Ok(Ended::Ran),
-        ItemNode::Output(source, name, steps) => {
-            spend(budget, run)?;
-            let v = refer(
-                alloc,
-                roots,
-                arena,
-                frame,
-                budget,
-                run,
-                name.as_str(),
-                steps,
-                arena.expr_count(),
-            )?;
-            show(run, source.as_str(), &v)?;
-            Ok(Ended::Ran)
-        }
-        ItemNode::Set(target, e) => {
-            spend(budget, run)?;
-            let v = eval(alloc, roots, arena, frame, budget, run, *e)?;
-            assign(alloc, roots, run, target, v)?;
-            Ok(Ended::Ran)
-        }
+        ItemNode::Output(source, name, steps) => run_output(
+            alloc,
+            roots,
+            arena,
+            frame,
+            budget,
+            run,
+            source.as_str(),
+            name.as_str(),
+            steps,
+        ),
+        ItemNode::Set(target, e) => run_set(alloc, roots, arena, frame, budget, run, target, *e),
         ItemNode::If(branches, otherwise) => {
             run_choice(
                 alloc, roots, arena, macros, idle, frame, left, budget, run, branches, otherwise, k,
@@ -291,9 +332,13 @@ pub fn run_items<'a, R: Roots>(
     ensures same { R.meanings roots.new ≡ R.meanings roots.old }
 {
     for k in ids {
-        match run_item(
+        let ended = match run_item(
             alloc, roots, arena, macros, idle, frame, left, budget, run, *k,
-        )? {
+        ) {
+            Ok(ended) => ended,
+            Err(e) => return Err(e),
+        };
+        match ended {
             Ended::Ran => {}
             Ended::Broke => return Ok(Ended::Broke),
             Ended::Stopped => return Ok(Ended::Stopped),

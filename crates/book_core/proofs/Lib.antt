@@ -2,3 +2,4 @@ pub mod Finding
 pub mod Histories
 pub mod Placing
 pub mod Viewing
+mod Times

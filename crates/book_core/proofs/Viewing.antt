@@ -11,7 +11,7 @@ use Rattle.book_core.specs.History.{state_of, state_after}
 use Rattle.book_core.specs.Views.{command_of, kept_command, definition_after, definition_by, stage_after, stage_by, deployment_after, deployment_by, entered_by, ViewsAreOfTheLastCommands}
 use Rattle.book_core.specs.declared.rows.ApiRow.{ApiRow}
 use Rattle.book_core.specs.declared.rows.StageRow.{StageRow}
-use Rattle.book_core.specs.declared.events.Vars.{Vars}
+use Rattle.call_facts.specs.declared.facts.Vars.{Vars}
 use Rattle.book_core.specs.declared.events.Command.{Command}
 use Rattle.book_core.specs.declared.events.Command.TheVariants.{PutApi, Deploy, PutStage}
 use Rattle.book_core.specs.declared.events.Event.{Event}

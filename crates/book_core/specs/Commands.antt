@@ -3,7 +3,7 @@ use Rattle.std.specs.Prelude.{ℕ, ◌+◌, nat_lt, nat_le, Bool, true, false, n
 use Rattle.book_core.specs.Names.{is_name, are_variables}
 use Rattle.book_core.specs.Rows.{Rows, Written, puts_definition, adds_deployment, puts_stage, api_row, stage_row, deployment}
 use Rattle.book_core.specs.declared.rows.ApiRow.{ApiRow}
-use Rattle.book_core.specs.declared.events.Vars.{Vars}
+use Rattle.call_facts.specs.declared.facts.Vars.{Vars}
 use Rattle.book_core.specs.declared.events.Command.{Command}
 use Rattle.book_core.specs.declared.events.Command.TheVariants.{PutApi, Deploy, PutStage}
 use Rattle.book_core.specs.declared.replies.Refusal.{Refusal}

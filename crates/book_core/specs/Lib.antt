@@ -8,7 +8,7 @@ pub mod History
 pub mod Machine
 -- names and variables
 pub mod Names
--- how refusals and kinds are printed
+-- how refusals are printed
 pub mod Printed
 -- the tables: their rows, searches, and what is written to them
 pub mod Rows
@@ -16,3 +16,5 @@ pub mod Rows
 pub mod Tables
 -- the view of a stage by the last commands that were kept
 pub mod Views
+-- when a request happens
+pub mod Times

@@ -1,7 +1,5 @@
--- How refusals and kinds are printed.
+-- How refusals are printed.
 use Rattle.std.specs.Prelude.{ℕ, List, codes}
-use Rattle.book_core.specs.declared.kind.Kind.{Kind}
-use Rattle.book_core.specs.declared.kind.Kind.TheVariants.{ApiConfigurationError, UnknownStage}
 use Rattle.book_core.specs.declared.replies.Refusal.{Refusal}
 use Rattle.book_core.specs.declared.replies.Refusal.TheVariants.{BadName, NoApi, NoDeployment, Full}
 
@@ -10,7 +8,3 @@ refusal_name BadName = codes "BadName"
 refusal_name NoApi = codes "NoApi"
 refusal_name NoDeployment = codes "NoDeployment"
 refusal_name Full = codes "Full"
-
-abbrev pub kind_name : Kind → List ℕ
-kind_name ApiConfigurationError = codes "API_CONFIGURATION_ERROR"
-kind_name UnknownStage = codes "UNKNOWN_STAGE"

@@ -4,6 +4,7 @@ ghost use Rattle.book_core.specs.Commands.{takes_memory};
 ghost use Rattle.book_core.specs.History.{total_size, reply, rows_after, is_full};
 ghost use Rattle.book_core.specs.Rows.{no_rows};
 ghost use Rattle.book_core.specs.Tables.{rows_of};
+ghost use Rattle.book_core.specs.Times.{IsInTime};
 
 use crate::current::{Current, take};
 use crate::events::{Entry, Event, Limits};
@@ -85,6 +86,10 @@ impl Book {
     /// Takes an event of a seat: answers the reply, and adds one entry to the history.
     pub fn step(&mut self, alloc: Global, seat: u32, event: Event) -> Result<Reply, StepFault>
         ensures reply { IfOk result (λ r. r ≡ reply self.old.base.opening self.old.history event true) }
+
+        // A request happens before the year 2100, whatever moment it was told.
+        ensures time { IfOk result IsInTime }
+
         ensures ok { OnOk result (self.new ≡ record self.old { history = self.old.history ++ record { seat = seat; event = event; kept = true } ∷ [] }) }
 
         // A refusal changes nothing.

@@ -1,18 +1,12 @@
 use crate::api::Api;
-use crate::kind::Kind;
-use gw_base::{Seq, Shared, Text};
+use call_facts::{Kind, Vars};
+use gw_base::{Shared, Text};
 
 /// The most entries of a history, and the most bytes of its events' texts.
 #[derive(Clone, Copy, Debug, PartialEq, Eq)]
 pub struct Limits {
     pub entries: u32,
     pub bytes: u64,
-}
-
-/// The variables of a stage, names and values in the order in which they were handed in.
-#[derive(Drop)]
-pub struct Vars {
-    pub pairs: Seq<(Text, Text)>,
 }
 
 /// A change that an administrator asks for. What each refuses, and in which order, is in `specs/Commands.antt`.

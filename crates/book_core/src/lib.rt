@@ -29,7 +29,6 @@ mod book;
 mod commands;
 mod current;
 mod events;
-mod kind;
 mod laws;
 mod names;
 mod puts;
@@ -40,8 +39,8 @@ mod tables;
 
 pub use api::Api;
 pub use book::{Book, StepFault};
-pub use events::{Command, Entry, Event, Limits, Vars};
-pub use kind::Kind;
+pub use call_facts::{Kind, Vars};
+pub use events::{Command, Entry, Event, Limits};
 pub use laws::views_are_of_the_last_commands;
 pub use names::is_name;
 pub use replies::{Refusal, Reply, View};

@@ -3,7 +3,7 @@ ghost use Rattle.std.specs.Prelude.{◌≡◌};
 ghost use Rattle.std.specs.List.{list_all};
 ghost use Rattle.book_core.specs.Names.{is_name as is_name_of, is_name_byte as is_name_byte_of, spells_name as spells_name_of, are_variables as are_variables_of, is_variable as is_variable_of};
 
-use crate::events::Vars;
+use call_facts::Vars;
 use gw_base::Text;
 
 /// The most bytes of a name.

@@ -1,5 +1,5 @@
 use crate::api::Api;
-use crate::events::Vars;
+use call_facts::Vars;
 use gw_base::{Shared, Text};
 use std::fmt;
 

@@ -1,5 +1,5 @@
 use crate::api::Api;
-use crate::events::Vars;
+use call_facts::Vars;
 use gw_base::{Seq, Shared, Text};
 
 /// An API: its definition as it stands, and its deployments in order, the first of which has the number 1.

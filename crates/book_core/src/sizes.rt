@@ -2,7 +2,8 @@
 ghost use Rattle.std.specs.Prelude.{◌≡◌};
 ghost use Rattle.book_core.specs.History.{capped, size as size_of_event, command_size as command_size_of, variables_size as variables_size_of};
 
-use crate::events::{Command, Event, Vars};
+use crate::events::{Command, Event};
+use call_facts::Vars;
 use gw_base::Text;
 
 // The bytes of names and values.

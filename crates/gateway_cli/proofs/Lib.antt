@@ -1,3 +1,4 @@
+mod Answered
 pub mod Asked
 pub mod Inputs
 pub mod Lines

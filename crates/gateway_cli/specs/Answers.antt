@@ -7,37 +7,52 @@ use Rattle.vtl_eval.specs.Meaning.{rendering}
 use Rattle.vtl_eval.specs.Roots.{Kept}
 use Rattle.vtl_eval.specs.declared.stop.Rendered.{Rendered}
 use Rattle.vtl_eval.specs.declared.stop.Stop.{Stop}
-use Rattle.book_core.specs.declared.kind.Kind.{Kind}
-use Rattle.book_core.specs.declared.kind.Kind.TheVariants.{ApiConfigurationError, UnknownStage}
+use Rattle.call_facts.specs.Kinds.{kind_name, kind_status, kind_message}
+use Rattle.call_facts.specs.declared.kind.Kind.{Kind}
+use Rattle.call_facts.specs.declared.kind.Kind.TheVariants as kinds
+use Rattle.call_facts.specs.declared.kind.Kind.TheVariants.{ApiConfigurationError, UnknownStage}
+use Rattle.call_facts.specs.declared.request.Request.{Request}
 use Rattle.book_core.specs.declared.replies.Reply.{Reply}
 use Rattle.book_core.specs.declared.replies.Reply.TheVariants.{Entered}
-use Rattle.book_core.specs.Printed.{kind_name}
-use Rattle.gateway_cli.specs.Seen.{body_meanings}
+use Rattle.gateway_cli.specs.Requests.{facts_of, meanings_at}
 use Rattle.gateway_cli.specs.declared.answer.Answer.{Answer}
 
 -- the status of an answer: of a gateway response where a cause stands
 abbrev pub status_of : Option Kind → ℕ
 status_of None = 200
-status_of (Some ApiConfigurationError) = 500
-status_of (Some UnknownStage) = 403
+status_of (Some kind) = kind_status kind
 
 -- the phrase of that status (RFC 9110, section 15)
+abbrev pub kind_phrase : Kind → List ℕ
+kind_phrase kinds.AccessDenied = codes "Forbidden"
+kind_phrase kinds.ApiConfigurationError = codes "Internal Server Error"
+kind_phrase kinds.AuthorizerConfigurationError = codes "Internal Server Error"
+kind_phrase kinds.AuthorizerFailure = codes "Internal Server Error"
+kind_phrase kinds.BadRequestParameters = codes "Bad Request"
+kind_phrase kinds.BadRequestBody = codes "Bad Request"
+kind_phrase kinds.IntegrationFailure = codes "Gateway Timeout"
+kind_phrase kinds.IntegrationTimeout = codes "Gateway Timeout"
+kind_phrase kinds.InvalidApiKey = codes "Forbidden"
+kind_phrase kinds.MissingAuthenticationToken = codes "Forbidden"
+kind_phrase kinds.QuotaExceeded = codes "Too Many Requests"
+kind_phrase kinds.RequestTooLarge = codes "Payload Too Large"
+kind_phrase kinds.StoreFailure = codes "Internal Server Error"
+kind_phrase kinds.Throttled = codes "Too Many Requests"
+kind_phrase kinds.Unauthorized = codes "Unauthorized"
+kind_phrase kinds.UnknownStage = codes "Forbidden"
+kind_phrase kinds.UnsupportedMediaType = codes "Unsupported Media Type"
+
 abbrev pub phrase_of : Option Kind → List ℕ
 phrase_of None = codes "OK"
-phrase_of (Some ApiConfigurationError) = codes "Internal Server Error"
-phrase_of (Some UnknownStage) = codes "Forbidden"
+phrase_of (Some kind) = kind_phrase kind
 
 abbrev pub content_type_of : Option Kind → List ℕ
 content_type_of None = codes "text/plain"
 content_type_of (Some cause) = codes "application/json"
 
-abbrev pub message_of : Kind → List ℕ
-message_of ApiConfigurationError = codes "Internal server error"
-message_of UnknownStage = codes "Unknown stage"
-
 -- the body of a gateway response
 unfoldable pub message_body : Kind → List ℕ
-message_body kind = concat (codes "{\"message\":\"" ∷ message_of kind ∷ codes "\"}" ∷ [])
+message_body kind = concat (codes "{\"message\":\"" ∷ kind_message kind ∷ codes "\"}" ∷ [])
 
 abbrev pub gateway_answer : Kind → Answer
 gateway_answer kind = record { cause = Some kind; body = message_body kind }
@@ -51,10 +66,11 @@ abbrev pub text_answer : Result (Rendered × Kept) (Stop × Kept) → Answer
 text_answer (Ok made) = record { cause = None; body = made.0.text }
 text_answer (Err met) = gateway_answer ApiConfigurationError
 
--- the answer to a call whose Enter was replied so
-abbrev pub answer_to : Reply → List ℕ → Answer
-answer_to (Entered view) body = text_answer (rendering budget (body_meanings body) (tree_of view.api.source) [])
-answer_to reply body = gateway_answer UnknownStage
+-- the answer to a call of this stage whose Enter was replied so
+abbrev pub answer_to : Reply → List ℕ → List ℕ → Request → Answer
+answer_to (Entered view) api stage request =
+    text_answer (rendering budget (meanings_at request (facts_of api stage view)) (tree_of view.api.source) [])
+answer_to reply api stage request = gateway_answer UnknownStage
 
 abbrev pub crlf : List ℕ
 crlf = 13 ∷ 10 ∷ []

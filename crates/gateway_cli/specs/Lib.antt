@@ -14,7 +14,7 @@ pub mod Printed
 pub mod Records
 -- what `render` prints of its files
 pub mod Render
--- what a template sees
-pub mod Seen
+-- what a template sees: a request and its call
+pub mod Requests
 -- what the top call leaves
 pub mod Top

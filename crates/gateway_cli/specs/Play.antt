@@ -3,9 +3,6 @@ use Rattle.std.specs.Prelude.{ℕ, ◌+◌, ◌==◌, ◌||◌, nat_lt, List, []
 use Rattle.vtl_grammar.specs.Templates.{read_of}
 use Rattle.vtl_grammar.specs.Tree.{Items}
 use Rattle.vtl_grammar.specs.declared.fault.TemplateFault.{TemplateFault}
-use Rattle.vtl_needs.specs.Needed.{needs_of}
-use Rattle.vtl_needs.specs.declared.walk.Needs.{Needs}
-use Rattle.vtl_needs.specs.declared.walk.Needs.TheVariants.{Plain, Control, Roots}
 use Rattle.book_core.specs.Rows.{no_rows}
 use Rattle.book_core.specs.History.{Base, is_full, reply, total_size}
 use Rattle.book_core.specs.declared.events.Limits.{Limits}
@@ -19,11 +16,12 @@ use Rattle.gateway_cli.specs.Answers.{status_of, answer_to, spelled}
 use Rattle.gateway_cli.specs.Coding.{lines_of, is_passed_over}
 use Rattle.gateway_cli.specs.Printed.{line_feed, reply_line, refused_line, closed_lines, full_line, full_lines}
 use Rattle.gateway_cli.specs.Records.{record_in}
+use Rattle.gateway_cli.specs.Requests.{post_request}
 use Rattle.gateway_cli.specs.declared.answer.Answer.{Answer}
 use Rattle.gateway_cli.specs.declared.records.Record.{Record}
 use Rattle.gateway_cli.specs.declared.records.Record.TheVariants.{PutText, Deploy, PutStage, Post}
 use Rattle.gateway_cli.specs.declared.records.LineFault.{LineFault}
-use Rattle.gateway_cli.specs.declared.records.LineFault.TheVariants.{NotBuilt, Template}
+use Rattle.gateway_cli.specs.declared.records.LineFault.TheVariants.{Template}
 use Rattle.gateway_cli.specs.declared.turns.Fullness.{Fullness}
 use Rattle.gateway_cli.specs.declared.turns.End.{End}
 use Rattle.gateway_cli.specs.declared.turns.End.TheVariants as ends
@@ -66,9 +64,10 @@ abbrev pub posted_by : Limits → Result (List Entry) Fullness → List Entry �
 posted_by limits (Ok entered) history answer = left limits entered answer
 posted_by limits (Err full) history answer = record { history = history; text = full_lines full; ends = Some ends.Full }
 
-unfoldable pub posted : Limits → List Entry → Event → List ℕ → Turn
-posted limits history enter body =
-    posted_by limits (taken limits history enter) history (answer_to (reply no_rows history enter true) body)
+unfoldable pub posted : Limits → List Entry → ℕ → ℕ → List ℕ → List ℕ → List ℕ → Turn
+posted limits history moment word api stage body =
+    posted_by limits (taken limits history (Enter moment word api stage)) history
+    (answer_to (reply no_rows history (Enter moment word api stage) true) api stage (post_request api stage body))
 
 -- a line that is refused ends the play
 abbrev pub refused : ℕ → List Entry → LineFault → Turn
@@ -78,24 +77,18 @@ refused number history fault = record { history = history; text = refused_line n
 abbrev pub put_api : List ℕ → List ℕ → Command
 put_api api template = command.PutApi api (record { text = true; source = template })
 
--- a text API is put unless its template needs roots other than the body, which are not built
-abbrev pub put_built : Limits → ℕ → List Entry → ℕ → List ℕ → List ℕ → Needs → Turn
-put_built limits number history moment api template Plain = commanded limits history moment (put_api api template)
-put_built limits number history moment api template Control = commanded limits history moment (put_api api template)
-put_built limits number history moment api template Roots = refused number history NotBuilt
-
--- and where it is read
+-- a text API is put where its template is read
 abbrev pub put_text : Limits → ℕ → List Entry → ℕ → List ℕ → List ℕ → Result Items TemplateFault → Turn
-put_text limits number history moment api template (Ok items) = put_built limits number history moment api template (needs_of items)
+put_text limits number history moment api template (Ok items) = commanded limits history moment (put_api api template)
 put_text limits number history moment api template (Err fault) = refused number history (Template fault)
 
 -- what a record does
 abbrev pub done : Limits → ℕ → List Entry → Record → Turn
 done limits number history (PutText moment api template) = put_text limits number history moment api template (read_of template)
 done limits number history (Deploy moment api) = commanded limits history moment (command.Deploy api)
-done limits number history (PutStage moment api stage deployment) =
-    commanded limits history moment (command.PutStage api stage deployment (record { pairs = [] }))
-done limits number history (Post moment word api stage body) = posted limits history (Enter moment word api stage) body
+done limits number history (PutStage moment api stage deployment variables) =
+    commanded limits history moment (command.PutStage api stage deployment (record { pairs = variables }))
+done limits number history (Post moment word api stage body) = posted limits history moment word api stage body
 
 abbrev pub done_or_refused : Limits → ℕ → List Entry → Result Record LineFault → Turn
 done_or_refused limits number history (Ok found) = done limits number history found

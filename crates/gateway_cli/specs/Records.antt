@@ -1,9 +1,9 @@
 -- The records of a script.
-use Rattle.std.specs.Prelude.{ℕ, ◌==◌, nat_lt, Bool, not, ◌&&◌, ◌||◌, List, [], ◌∷◌, length, codes, Option, Some, None, if◌then◌else◌, Result, Ok, Err}
-use Rattle.std.specs.List.{list_all, list_any}
+use Rattle.std.specs.Prelude.{ℕ, ◌==◌, ◌+◌, nat_lt, Bool, not, ◌&&◌, ◌||◌, List, [], ◌∷◌, length, take, drop, position, codes, Option, Some, None, if◌then◌else◌, Result, Ok, Err}
+use Rattle.std.specs.Option.{option_and_then, option_map}
 use Rattle.std.specs.Str.{bytes_eq}
 use Rattle.book_core.specs.Names.{is_name}
-use Rattle.gateway_cli.specs.Coding.{fields_of, text_of, is_utf8, number_of}
+use Rattle.gateway_cli.specs.Coding.{fields_of, text_of, number_of}
 use Rattle.gateway_cli.specs.declared.records.Record.{Record}
 use Rattle.gateway_cli.specs.declared.records.Record.TheVariants.{PutText, Deploy, PutStage, Post}
 use Rattle.gateway_cli.specs.declared.records.LineFault.{LineFault}
@@ -32,22 +32,30 @@ deploy_record m a = do
   api ← text_of a
   Ok (Deploy moment api)
 
--- a variable of a stage, `name=value`
-abbrev pub is_variable : List ℕ → Bool
-is_variable field = list_any (λ b. b == 61) field && is_utf8 field
+-- what stands before the first `=` and behind it
+abbrev pub parted : List ℕ → Option (List ℕ × List ℕ)
+parted field = option_map (λ at. (take at field, drop (at + 1) field)) (position (λ b. b == 61) field)
 
--- variables are held back where they have their form
-abbrev pub hold_variables : List (List ℕ) → Record → Reading
-hold_variables [] found = Ok found
-hold_variables (field ∷ fields) found = if list_all is_variable (field ∷ fields) then Err NotBuilt else Err BadRecord
+-- a variable of a stage, `name=value`, both of which are texts
+abbrev pub variable_of : List ℕ → Option (List ℕ × List ℕ)
+variable_of field = option_and_then (λ p. option_and_then (λ name. option_map (λ value. (name, value)) (text_of p.1)) (text_of p.0)) (parted field)
+
+abbrev pub before_each : List ℕ × List ℕ → Option (List (List ℕ × List ℕ)) → Option (List (List ℕ × List ℕ))
+before_each pair rest = option_map (λ pairs. pair ∷ pairs) rest
+
+-- the variables of some fields, where each has its form
+abbrev pub variables_of : List (List ℕ) → Option (List (List ℕ × List ℕ))
+variables_of [] = Some []
+variables_of (field ∷ fields) = option_and_then (λ pair. before_each pair (variables_of fields)) (variable_of field)
 
 unfoldable pub stage_record : List ℕ → List ℕ → List ℕ → List ℕ → List (List ℕ) → Reading
-stage_record m a s d variables = do
+stage_record m a s d fields = do
   moment ← number_of 64 m
   api ← text_of a
   stage ← text_of s
   deployment ← number_of 32 d
-  hold_variables variables (PutStage moment api stage deployment)
+  variables ← variables_of fields
+  Ok (PutStage moment api stage deployment variables)
 
 -- the most bytes of a body that is served
 unfoldable pub body_limit : ℕ

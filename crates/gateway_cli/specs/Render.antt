@@ -6,9 +6,6 @@ use Rattle.vtl_grammar.specs.Templates.{read_of}
 use Rattle.vtl_grammar.specs.Tree.{Items}
 use Rattle.vtl_grammar.specs.Printed.{printed}
 use Rattle.vtl_grammar.specs.declared.fault.TemplateFault.{TemplateFault}
-use Rattle.vtl_needs.specs.Needed.{needs_of}
-use Rattle.vtl_needs.specs.declared.walk.Needs.{Needs}
-use Rattle.vtl_needs.specs.declared.walk.Needs.TheVariants.{Plain, Control, Roots}
 use Rattle.vtl_eval.specs.Meaning.{rendering}
 use Rattle.vtl_eval.specs.Printed.{stop_name}
 use Rattle.vtl_eval.specs.Roots.{Kept}
@@ -19,7 +16,7 @@ use Rattle.gateway_cli.specs.Files.{Files, content_of, within}
 use Rattle.gateway_cli.specs.Play.{Output, too_long}
 use Rattle.gateway_cli.specs.Printed.{line_feed}
 use Rattle.gateway_cli.specs.Records.{body_limit}
-use Rattle.gateway_cli.specs.Seen.{body_meanings}
+use Rattle.gateway_cli.specs.Requests.{meanings_at, render_request, render_facts}
 
 -- the line of a template that is refused
 unfoldable pub refused : List ℕ → Output
@@ -34,28 +31,22 @@ abbrev pub shown : Result (Rendered × Kept) (Stop × Kept) → Output
 shown (Ok made) = record { text = made.0.text; status = 0 }
 shown (Err met) = stopped met.0
 
--- a template of this tree over a body, unless it needs roots other than the body, which are not built
-abbrev pub shown_by : Needs → Items → List ℕ → Output
-shown_by Plain items body = shown (rendering budget (body_meanings body) items [])
-shown_by Control items body = shown (rendering budget (body_meanings body) items [])
-shown_by Roots items body = refused (codes "NotBuilt")
-
--- and where it is read
+-- a template over a request with this body, where it is read
 abbrev pub read_over : Result Items TemplateFault → List ℕ → Output
-read_over (Ok items) body = shown_by (needs_of items) items body
+read_over (Ok items) body = shown (rendering budget (meanings_at (render_request body) render_facts) items [])
 read_over (Err fault) body = refused (printed fault)
 
--- two texts, unless one is over its limit
+-- a template's bytes over a body's, unless either are over their limit
 abbrev pub judged : Option (List ℕ) → Option (List ℕ) → Output
 judged None body = too_long
 judged (Some template) None = too_long
-judged (Some template) (Some body) = read_over (read_of (utf8_lossy template)) (utf8_lossy body)
+judged (Some template) (Some body) = read_over (read_of (utf8_lossy template)) body
 
 -- the most bytes of the template's file
 unfoldable pub template_limit : ℕ
 template_limit = 307200
 
--- the bytes of a template's file over those of a body's; bytes that are no UTF-8 stand for U+FFFD
+-- the bytes of a template's file over those of a body's; in a template, bytes that are no UTF-8 stand for U+FFFD
 abbrev pub rendered : List ℕ → List ℕ → Output
 rendered template body = judged (within template_limit template) (within body_limit body)
 

@@ -1,4 +1,4 @@
-use book_core::Kind;
+use call_facts::Kind;
 use gw_base::Text;
 
 /// An answer to a call: a text, or a gateway response of this cause.

@@ -1,14 +1,17 @@
 // The answers to a call, to the byte (RFC 9112, sections 3 to 6).
-ghost use Rattle.std.specs.Prelude.{◌≡◌, ◌≢◌, [], Some, None, Ok, Err, IfOk};
+ghost use Rattle.std.specs.Prelude.{◌≡◌, ◌<◌, [], Some, None, Ok, Err, IfOk};
+ghost use Rattle.book_core.specs.Times.{IsInTime};
 ghost use Rattle.vtl_eval.specs.Meaning.{rendering};
 ghost use Rattle.vtl_grammar.specs.Templates.{tree_of};
-ghost use Rattle.gateway_cli.specs.Seen.{body_meanings};
-ghost use Rattle.gateway_cli.specs.Answers.{status_of, phrase_of, content_type_of, message_of, message_body as message_body_of, gateway_answer as gateway_answer_of, text_answer as text_answer_of, answer_to as answer_to_reply, cause_line as cause_line_of, status_line as status_line_of, field_lines as field_lines_of, spelled as spelled_of, budget};
+ghost use Rattle.gateway_cli.specs.Requests.{facts_of as facts_of_view, meanings_at};
+ghost use Rattle.gateway_cli.specs.Answers.{status_of, phrase_of, kind_phrase as kind_phrase_of, content_type_of, message_body as message_body_of, gateway_answer as gateway_answer_of, text_answer as text_answer_of, answer_to as answer_to_reply, cause_line as cause_line_of, status_line as status_line_of, field_lines as field_lines_of, spelled as spelled_of, budget};
 
 use crate::answer::Answer;
 use crate::joined::joined;
-use crate::seen::BodyRoots;
-use book_core::{Kind, Reply};
+use crate::requests::{facts_of, nothing_found};
+use book_core::Reply;
+use call_facts::{CallFacts, Kind, Request};
+use gateway_vars::RequestRoots;
 use gw_base::{Memory, Text};
 use std::alloc::Global;
 use vtl_eval::{Stop, render};
@@ -23,8 +26,28 @@ pub fn status(cause: Option<Kind>) -> u16
 {
     match cause {
         None => 200,
-        Some(Kind::ApiConfigurationError) => 500,
-        Some(Kind::UnknownStage) => 403,
+        Some(kind) => kind.status(),
+    }
+}
+
+fn kind_phrase(kind: Kind) -> &'static str
+    ensures { result.now ≡ kind_phrase_of kind }
+{
+    match kind {
+        Kind::BadRequestParameters | Kind::BadRequestBody => "Bad Request",
+        Kind::Unauthorized => "Unauthorized",
+        Kind::AccessDenied
+        | Kind::InvalidApiKey
+        | Kind::MissingAuthenticationToken
+        | Kind::UnknownStage => "Forbidden",
+        Kind::RequestTooLarge => "Payload Too Large",
+        Kind::UnsupportedMediaType => "Unsupported Media Type",
+        Kind::QuotaExceeded | Kind::Throttled => "Too Many Requests",
+        Kind::ApiConfigurationError
+        | Kind::AuthorizerConfigurationError
+        | Kind::AuthorizerFailure
+        | Kind::StoreFailure => "Internal Server Error",
+        Kind::IntegrationFailure | Kind::IntegrationTimeout => "Gateway Timeout",
     }
 }
 
@@ -33,8 +56,7 @@ fn phrase(cause: Option<Kind>) -> &'static str
 {
     match cause {
         None => "OK",
-        Some(Kind::ApiConfigurationError) => "Internal Server Error",
-        Some(Kind::UnknownStage) => "Forbidden",
+        Some(kind) => kind_phrase(kind),
     }
 }
 
@@ -47,20 +69,11 @@ fn content_type(cause: Option<Kind>) -> &'static str
     }
 }
 
-fn message(kind: Kind) -> &'static str
-    ensures { result.now ≡ message_of kind }
-{
-    match kind {
-        Kind::ApiConfigurationError => "Internal server error",
-        Kind::UnknownStage => "Unknown stage",
-    }
-}
-
 #[tactic(auto, unfolding(crate::specs::Answers::message_body))]
 fn message_body(alloc: Global, kind: Kind) -> Result<Text, Memory>
     ensures { IfOk result (λ body. body ≡ message_body_of kind) }
 {
-    joined(alloc, &["{\"message\":\"", message(kind), "\"}"])
+    joined(alloc, &["{\"message\":\"", kind.message(), "\"}"])
 }
 
 fn gateway_answer(alloc: Global, kind: Kind) -> Result<Answer, Memory>
@@ -72,12 +85,19 @@ fn gateway_answer(alloc: Global, kind: Kind) -> Result<Answer, Memory>
     })
 }
 
-// The template of a text API over a body; where the render stops, the API is configured badly.
+// The template of a text API over a request; where the render stops, the API is configured badly.
 #[tactic(auto, unfolding(crate::specs::Answers::budget))]
-fn text_answer(alloc: Global, template: &Template, body: &str) -> Result<Answer, Memory>
-    ensures { IfOk result (λ answer. answer ≡ text_answer_of (rendering budget (body_meanings body.now) (tree_of template.now) [])) }
+fn text_answer(
+    alloc: Global,
+    template: &Template,
+    request: &Request,
+    facts: &CallFacts,
+) -> Result<Answer, Memory>
+    requires { facts.now.at < 4102444800000 }
+    ensures { IfOk result (λ answer. answer ≡ text_answer_of (rendering budget (meanings_at request.now facts.now) (tree_of template.now) [])) }
 {
-    let mut roots = BodyRoots::new(alloc, body)?;
+    let found = nothing_found(alloc);
+    let mut roots = RequestRoots::new(alloc, request, &found, facts)?;
     match render(alloc, template, &mut roots, BUDGET) {
         Ok(rendered) => Ok(Answer {
             cause: None,
@@ -88,12 +108,22 @@ fn text_answer(alloc: Global, template: &Template, body: &str) -> Result<Answer,
     }
 }
 
-/// The answer to a call whose Enter was replied so.
-pub fn answer_to(alloc: Global, reply: &Reply, body: &str) -> Result<Answer, Memory>
-    ensures { IfOk result (λ answer. answer ≡ answer_to_reply reply.now body.now) }
+/// The answer to a call of this stage whose Enter was replied so.
+pub fn answer_to(
+    alloc: Global,
+    reply: &Reply,
+    api: &str,
+    stage: &str,
+    request: &Request,
+) -> Result<Answer, Memory>
+    requires { IsInTime reply.now }
+    ensures { IfOk result (λ answer. answer ≡ answer_to_reply reply.now api.now stage.now request.now) }
 {
     match reply {
-        Reply::Entered(view) => text_answer(alloc, view.api.value().template(), body),
+        Reply::Entered(view) => {
+            let facts = facts_of(alloc, api, stage, view)?;
+            text_answer(alloc, view.api.value().template(), request, &facts)
+        }
         _ => gateway_answer(alloc, Kind::UnknownStage),
     }
 }

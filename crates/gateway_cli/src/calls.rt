@@ -2,6 +2,7 @@
 ghost use Rattle.std.specs.Prelude.{◌≡◌, ◌^◌, ◌<◌, [], true, Ok, Err, Some, None, IfOk, MatchResult};
 ghost use Rattle.book_core.specs.History.{reply as reply_of};
 ghost use Rattle.book_core.specs.Rows.{no_rows};
+ghost use Rattle.book_core.specs.Times.{IsInTime};
 ghost use Rattle.vtl_grammar.specs.Templates.{read_of};
 ghost use Rattle.gateway_cli.specs.Printed.{full_lines as full_lines_of, refused_line as refused_line_of};
 ghost use Rattle.gateway_cli.specs.Play.{taken as taken_of, commanded as commanded_of, left as left_of, posted as posted_of, put_text as put_text_of, done as done_of, turn as turn_of};
@@ -12,18 +13,18 @@ use crate::fields::is_passed_over;
 use crate::printed::{closed_lines, full_line, full_lines, refused_line, reply_line};
 use crate::reading::record_in;
 use crate::records::{LineFault, Record};
+use crate::requests::post_request;
 use crate::turns::{End, Fullness, Said};
 use book_core::{Api, Book, Command, Event, Reply, StepFault, Vars};
 use gw_base::{Memory, Seq, Shared, Text};
 use std::alloc::Global;
 use vtl_grammar::TemplateFault;
-use vtl_needs::{Needs, needs_of};
 
 // Takes an event of the one seat, or tells that the history is full.
 fn taken(book: &mut Book, alloc: Global, event: Event) -> Result<Result<Reply, Fullness>, Memory>
     requires { book.old.base.opening ≡ no_rows }
     ensures told { IfOk result (λ r. MatchResult r
-        (λ reply. (reply ≡ reply_of no_rows book.old.history event true) × (taken_of book.old.base.limits book.old.history event ≡ Ok book.new.history))
+        (λ reply. (reply ≡ reply_of no_rows book.old.history event true) × IsInTime reply × (taken_of book.old.base.limits book.old.history event ≡ Ok book.new.history))
         (λ full. (taken_of book.old.base.limits book.old.history event ≡ Err full) × (book.new.history ≡ book.old.history))) }
     ensures base { book.new.base ≡ book.old.base }
 {
@@ -84,17 +85,32 @@ fn left(book: &mut Book, alloc: Global, answer: &Answer) -> Result<Said, Memory>
     }
 }
 
-// Serves a call: its Enter, its answer and its Leave.
+// Serves a `post`: its Enter, its answer and its Leave.
 #[tactic(auto, unfolding(crate::specs::Play::posted))]
-fn posted(book: &mut Book, alloc: Global, enter: Event, body: &str) -> Result<Said, Memory>
+fn posted(
+    book: &mut Book,
+    alloc: Global,
+    moment: u64,
+    word: u64,
+    api: Text,
+    stage: Text,
+    body: Text,
+) -> Result<Said, Memory>
     requires { book.old.base.opening ≡ no_rows }
-    ensures does { IfOk result (λ said. posted_of book.old.base.limits book.old.history enter body.now
+    ensures does { IfOk result (λ said. posted_of book.old.base.limits book.old.history moment word api stage body
         ≡ record { history = book.new.history; text = said.text; ends = said.ends }) }
     ensures base { book.new.base ≡ book.old.base }
 {
+    let request = post_request(alloc, api.as_str(), stage.as_str(), body)?;
+    let enter = Event::Enter {
+        moment,
+        word,
+        api: api.copy(alloc)?,
+        stage: stage.copy(alloc)?,
+    };
     match taken(book, alloc, enter)? {
         Ok(reply) => {
-            let answer = answer_to(alloc, &reply, body)?;
+            let answer = answer_to(alloc, &reply, api.as_str(), stage.as_str(), &request)?;
             left(book, alloc, &answer)
         }
         Err(full) => said_full(alloc, full),
@@ -110,7 +126,7 @@ fn refused(alloc: Global, number: u64, fault: LineFault) -> Result<Said, Memory>
     })
 }
 
-// Puts a text API, where its template is read and its roots are built.
+// Puts a text API, where its template is read.
 fn put_text(
     book: &mut Book,
     alloc: Global,
@@ -126,20 +142,15 @@ fn put_text(
 {
     match Api::text(alloc, template) {
         Ok(definition) => {
-            match needs_of(definition.template()) {
-                Needs::Plain | Needs::Control => {
-                    let definition = Shared::new(alloc, definition)?;
-                    commanded(book, alloc, moment, Command::PutApi { api, definition })
-                }
-                Needs::Roots => refused(alloc, number, LineFault::NotBuilt),
-            }
+            let definition = Shared::new(alloc, definition)?;
+            commanded(book, alloc, moment, Command::PutApi { api, definition })
         }
         Err(TemplateFault::Memory) => Err(Memory),
         Err(fault) => refused(alloc, number, LineFault::Template(fault)),
     }
 }
 
-// Points a stage without variables to a deployment.
+// Points a stage to a deployment, with its variables.
 fn put_stage(
     book: &mut Book,
     alloc: Global,
@@ -147,18 +158,14 @@ fn put_stage(
     api: Text,
     stage: Text,
     deployment: u32,
+    variables: Seq<(Text, Text)>,
 ) -> Result<Said, Memory>
     requires { book.old.base.opening ≡ no_rows }
-    ensures does { IfOk result (λ said. commanded_of book.old.base.limits book.old.history moment (Command.PutStage api stage deployment (record { pairs = [] }))
+    ensures does { IfOk result (λ said. commanded_of book.old.base.limits book.old.history moment (Command.PutStage api stage deployment (record { pairs = variables }))
         ≡ record { history = book.new.history; text = said.text; ends = said.ends }) }
     ensures base { book.new.base ≡ book.old.base }
 {
-    let variables = Shared::new(
-        alloc,
-        Vars {
-            pairs: Seq::new(alloc),
-        },
-    )?;
+    let variables = Shared::new(alloc, Vars { pairs: variables })?;
     let command = Command::PutStage {
         api,
         stage,
@@ -186,22 +193,15 @@ fn done(book: &mut Book, alloc: Global, number: u64, found: Record) -> Result<Sa
             api,
             stage,
             deployment,
-        } => put_stage(book, alloc, moment, api, stage, deployment),
+            variables,
+        } => put_stage(book, alloc, moment, api, stage, deployment, variables),
         Record::Post {
             moment,
             word,
             api,
             stage,
             body,
-        } => {
-            let enter = Event::Enter {
-                moment,
-                word,
-                api,
-                stage,
-            };
-            posted(book, alloc, enter, body.as_str())
-        }
+        } => posted(book, alloc, moment, word, api, stage, body),
     }
 }
 

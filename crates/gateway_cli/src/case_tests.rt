@@ -1,5 +1,6 @@
 // Templates with the text that they render to over a body, and its steps, as they were computed apart from this program.
-use crate::seen::BodyRoots;
+use crate::requests::{nothing_found, render_facts, render_request};
+use gateway_vars::RequestRoots;
 use std::alloc::Global;
 use std::test::Fail;
 use vtl_eval::render;
@@ -427,9 +428,13 @@ fn told(alloc: Global, template: &str, body: &str) -> Result<(String, u64), Fail
         Ok(template) => template,
         Err(fault) => return Ok((format!(in alloc; "refused {fault}")?, 0)),
     };
-    let Ok(mut roots) = BodyRoots::new(alloc, body) else {
-        return Ok((String::from_str(alloc, "no memory")?, 0));
-    };
+    let request = render_request(alloc, body.as_bytes())?;
+    let found = nothing_found(alloc);
+    let facts = render_facts(alloc)?;
+    if facts.at >= 4_102_444_800_000 {
+        return Ok((String::from_str(alloc, "no time")?, 0));
+    }
+    let mut roots = RequestRoots::new(alloc, &request, &found, &facts)?;
     match render(alloc, &template, &mut roots, 1_000_000) {
         Ok(rendered) => Ok((rendered.text.into_inner(), rendered.steps)),
         Err(stop) => Ok((format!(in alloc; "stop {stop}")?, 0)),

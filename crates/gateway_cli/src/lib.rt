@@ -18,14 +18,14 @@
 //! | `post 0 0 hello v2 Ann` | the 403 answer whose cause is `UNKNOWN_STAGE` |
 //! | `bogus 1` | `refused line 1 BadRecord at ~`, and the play ends with status 1 |
 //! | `key 0 k v on` | `refused line 1 NotBuilt at ~`, and the play ends with status 1 |
-//! | `text 0 t $context.stage` | `refused line 1 NotBuilt at ~`, and the play ends with status 1 |
+//! | `stage 0 hello v1 1 env=x` | `done`, and `$stageVariables.env` is `x` in the answers of the stage |
 //!
 //! | template over the body `Ann` | `render` prints |
 //! |---|---|
 //! | `Hi $input.body!` | `Hi Ann!`, and no line feed |
 //! | `#set($a=7/2)$a#set($b=7/0)$b` | `3$b` |
 //! | `#if($a)` | `refused Unclosed(0) at ~`, with status 1 |
-//! | `$context.stage` | `refused NotBuilt at ~`, with status 1 |
+//! | `$context.stage`, `$input.json('$.a')` | `render`; `""`, since the body is no document |
 //! | one of 1,000,001 steps | `stop Steps`, with status 1 |
 //! | a file that is not there | `fault file`, with status 3 |
 //!
@@ -50,8 +50,8 @@ mod program;
 mod reading;
 mod records;
 mod render;
+mod requests;
 mod say;
-mod seen;
 mod shelf;
 mod stopped;
 mod turns;
@@ -67,6 +67,8 @@ pub use shelf::MemOutside;
 mod case_tests;
 #[cfg(test)]
 mod render_tests;
+#[cfg(test)]
+mod roots_tests;
 #[cfg(test)]
 mod template_tests;
 #[cfg(test)]

@@ -1,13 +1,12 @@
 // The record of a line.
-ghost use Rattle.std.specs.Prelude.{◌≡◌, ◌≢◌, Ok, Err, IfOk, IfErr, OnOk};
-ghost use Rattle.std.specs.List.{list_all};
-ghost use Rattle.gateway_cli.specs.Coding.{is_utf8 as is_utf8_of};
-ghost use Rattle.gateway_cli.specs.Records.{is_variable as is_variable_of, hold_variables, called as called_of, text_record as text_record_of, deploy_record as deploy_record_of, stage_record as stage_record_of, post_record as post_record_of, text_fields as text_fields_of, deploy_fields as deploy_fields_of, stage_fields as stage_fields_of, post_fields as post_fields_of, is_held_back as is_held_back_of, record_of as record_of_fields, record_in as record_in_line};
+ghost use Rattle.std.specs.Prelude.{◌≡◌, ◌≢◌, ◌==◌, ◌<◌, length, position, Ok, Err, IfOk, IfErr, IfSome, OnOk};
+ghost use Rattle.std.specs.Option.{option_map};
+ghost use Rattle.gateway_cli.specs.Records.{parted as parted_of, variable_of, variables_of, called as called_of, text_record as text_record_of, deploy_record as deploy_record_of, stage_record as stage_record_of, post_record as post_record_of, text_fields as text_fields_of, deploy_fields as deploy_fields_of, stage_fields as stage_fields_of, post_fields as post_fields_of, is_held_back as is_held_back_of, record_of as record_of_fields, record_in as record_in_line};
 
 use crate::fields::{fields_in, number, small_number, text_of};
 use crate::records::{LineFault, Record};
 use book_core::is_name;
-use gw_base::Bytes;
+use gw_base::{Bytes, Seq, Text};
 use std::alloc::{AllocError, Global};
 
 /// A record, or why the line has none.
@@ -54,25 +53,49 @@ fn deploy_record(alloc: Global, moment: &[u8], api: &[u8]) -> Result<Reading, Al
     Ok(Ok(Record::Deploy { moment, api }))
 }
 
-fn is_utf8(field: &[u8]) -> bool
-    ensures { result ≡ is_utf8_of field.now }
+fn equals_at(field: &[u8]) -> Option<usize>
+    ensures value { result ≡ position (λ b. b == 61) field.now }
+    ensures bound { IfSome result (λ at. at < length field.now) }
 {
-    match str::from_utf8(field) {
-        Ok(_) => true,
-        Err(_) => false,
+    field.iter().position(|b| *b == b'=')
+}
+
+// What stands before the first `=` and behind it.
+fn parted(field: &[u8]) -> Option<(&[u8], &[u8])>
+    ensures { option_map (λ p. (p.0.now, p.1.now)) result ≡ parted_of field.now }
+{
+    match equals_at(field) {
+        Some(at) => Some((&field[..at], &field[at + 1..])),
+        None => None,
     }
 }
 
-fn is_variable(field: &[u8]) -> bool
-    ensures { result ≡ is_variable_of field.now }
+fn variable(alloc: Global, field: &[u8]) -> Result<Option<(Text, Text)>, AllocError>
+    ensures { IfOk result (λ pair. pair ≡ variable_of field.now) }
 {
-    field.contains(&b'=') && is_utf8(field)
+    let Some((name, value)) = parted(field) else {
+        return Ok(None);
+    };
+    let Some(name) = text_of(alloc, name)? else {
+        return Ok(None);
+    };
+    let Some(value) = text_of(alloc, value)? else {
+        return Ok(None);
+    };
+    Ok(Some((name, value)))
 }
 
-fn are_variables(fields: &[Bytes]) -> bool
-    ensures { result ≡ list_all is_variable_of fields.now }
+fn variables(alloc: Global, fields: &[Bytes]) -> Result<Option<Vec<(Text, Text)>>, AllocError>
+    ensures { IfOk result (λ pairs. option_map (λ v. v.items) pairs ≡ variables_of fields.now) }
 {
-    fields.iter().all(|field| is_variable(field.as_slice()))
+    let mut pairs = Vec::new(alloc);
+    for field in fields {
+        let Some(pair) = variable(alloc, field.as_slice())? else {
+            return Ok(None);
+        };
+        pairs.push(pair)?;
+    }
+    Ok(Some(pairs))
 }
 
 #[tactic(auto, unfolding(crate::specs::Records::stage_record))]
@@ -82,9 +105,9 @@ fn stage_record(
     api: &[u8],
     stage: &[u8],
     deployment: &[u8],
-    variables: &[Bytes],
+    fields: &[Bytes],
 ) -> Result<Reading, AllocError>
-    ensures { IfOk result (λ r. r ≡ stage_record_of moment.now api.now stage.now deployment.now variables.now) }
+    ensures { IfOk result (λ r. r ≡ stage_record_of moment.now api.now stage.now deployment.now fields.now) }
 {
     let Some(moment) = number(moment) else {
         return Ok(Err(LineFault::BadRecord));
@@ -98,19 +121,16 @@ fn stage_record(
     let Some(deployment) = small_number(deployment) else {
         return Ok(Err(LineFault::BadRecord));
     };
-    if variables.is_empty() {
-        return Ok(Ok(Record::PutStage {
-            moment,
-            api,
-            stage,
-            deployment,
-        }));
-    }
-    if are_variables(variables) {
-        Ok(Err(LineFault::NotBuilt))
-    } else {
-        Ok(Err(LineFault::BadRecord))
-    }
+    let Some(variables) = variables(alloc, fields)? else {
+        return Ok(Err(LineFault::BadRecord));
+    };
+    Ok(Ok(Record::PutStage {
+        moment,
+        api,
+        stage,
+        deployment,
+        variables: Seq::of(variables),
+    }))
 }
 
 #[tactic(auto, unfolding(crate::specs::Records::post_record, crate::specs::Records::body_limit))]

@@ -1,4 +1,4 @@
-use gw_base::Text;
+use gw_base::{Seq, Text};
 use vtl_grammar::TemplateFault;
 
 /// A record of a script, read from its line.
@@ -15,12 +15,14 @@ pub enum Record {
         moment: u64,
         api: Text,
     },
-    /// `stage M API STAGE DEPLOYMENT`: makes a stage, or points it to another deployment.
+    /// `stage M API STAGE DEPLOYMENT` and fields `name=value`: makes a stage, or points it to another deployment, with these
+    /// variables.
     PutStage {
         moment: u64,
         api: Text,
         stage: Text,
         deployment: u32,
+        variables: Seq<(Text, Text)>,
     },
     /// `post M W API STAGE BODY`: a call of `POST /API/STAGE` with this body.
     Post {

@@ -1,20 +1,21 @@
 // What the command `render` prints of its two files.
-ghost use Rattle.std.specs.Prelude.{◌≡◌, [], true, Some, Ok, Err, IfOk};
+ghost use Rattle.std.specs.Prelude.{◌≡◌, ◌<◌, [], true, Some, Ok, Err, IfOk};
 ghost use Rattle.vtl_eval.specs.Meaning.{rendering};
 ghost use Rattle.vtl_grammar.specs.Templates.{read_of, tree_of};
 ghost use Rattle.gateway_cli.specs.Answers.{budget};
 ghost use Rattle.gateway_cli.specs.Play.{is_command_status};
 ghost use Rattle.gateway_cli.specs.Render.{refused as refused_of, stopped as stopped_of, shown as shown_of, read_over as read_over_of, judged as judged_of};
-ghost use Rattle.gateway_cli.specs.Seen.{body_meanings};
+ghost use Rattle.gateway_cli.specs.Requests.{meanings_at, render_request as render_request_of, render_facts as render_facts_of};
 
 use crate::answers::BUDGET;
 use crate::joined::joined;
-use crate::seen::BodyRoots;
+use crate::requests::{nothing_found, render_facts, render_request};
+use call_facts::{CallFacts, Request};
+use gateway_vars::RequestRoots;
 use gw_base::{Bytes, Memory, Text};
 use std::alloc::Global;
 use vtl_eval::{Stop, render};
 use vtl_grammar::TemplateFault;
-use vtl_needs::{Needs, needs_of};
 use vtl_reader::Template;
 
 /// What a render prints, and its status.
@@ -47,14 +48,21 @@ fn stopped(alloc: Global, stop: Stop) -> Result<Shown, Memory>
     })
 }
 
-// Renders a template over a body.
+// Renders a template over a request and its call.
 #[tactic(auto, unfolding(crate::specs::Answers::budget))]
-fn shown_over(alloc: Global, template: &Template, body: &str) -> Result<Shown, Memory>
-    ensures output { IfOk result (λ shown. shown_of (rendering budget (body_meanings body.now) (tree_of template.now) [])
+fn shown_at(
+    alloc: Global,
+    template: &Template,
+    request: &Request,
+    facts: &CallFacts,
+) -> Result<Shown, Memory>
+    requires { facts.now.at < 4102444800000 }
+    ensures output { IfOk result (λ shown. shown_of (rendering budget (meanings_at request.now facts.now) (tree_of template.now) [])
         ≡ record { text = shown.text; status = shown.status }) }
     ensures known { IfOk result (λ shown. is_command_status shown.status ≡ true) }
 {
-    let mut roots = BodyRoots::new(alloc, body)?;
+    let found = nothing_found(alloc);
+    let mut roots = RequestRoots::new(alloc, request, &found, facts)?;
     match render(alloc, template, &mut roots, BUDGET) {
         Ok(rendered) => Ok(Shown {
             text: rendered.text,
@@ -65,16 +73,25 @@ fn shown_over(alloc: Global, template: &Template, body: &str) -> Result<Shown, M
     }
 }
 
+// Renders a template over a request with this body.
+#[tactic(auto, unfolding(crate::specs::Requests::render_facts))]
+fn shown_over(alloc: Global, template: &Template, body: &[u8]) -> Result<Shown, Memory>
+    ensures output { IfOk result (λ shown. shown_of (rendering budget (meanings_at (render_request_of body.now) render_facts_of) (tree_of template.now) [])
+        ≡ record { text = shown.text; status = shown.status }) }
+    ensures known { IfOk result (λ shown. is_command_status shown.status ≡ true) }
+{
+    let request = render_request(alloc, body)?;
+    let facts = render_facts(alloc)?;
+    shown_at(alloc, template, &request, &facts)
+}
+
 // Reads a template and renders it over a body.
-fn read_over(alloc: Global, template: &str, body: &str) -> Result<Shown, Memory>
+fn read_over(alloc: Global, template: &str, body: &[u8]) -> Result<Shown, Memory>
     ensures output { IfOk result (λ shown. read_over_of (read_of template.now) body.now ≡ record { text = shown.text; status = shown.status }) }
     ensures known { IfOk result (λ shown. is_command_status shown.status ≡ true) }
 {
     match Template::read(alloc, template) {
-        Ok(template) => match needs_of(&template) {
-            Needs::Plain | Needs::Control => shown_over(alloc, &template, body),
-            Needs::Roots => refused(alloc, "NotBuilt"),
-        },
+        Ok(template) => shown_over(alloc, &template, body),
         Err(TemplateFault::Memory) => Err(Memory),
         Err(fault) => {
             let fault = fault.to_string(alloc)?;
@@ -99,6 +116,5 @@ pub fn judged(
         });
     };
     let template = String::from_utf8_lossy(alloc, template.as_slice())?;
-    let body = String::from_utf8_lossy(alloc, body.as_slice())?;
-    read_over(alloc, template.as_str(), body.as_str())
+    read_over(alloc, template.as_str(), body.as_slice())
 }

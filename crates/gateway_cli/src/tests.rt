@@ -1,7 +1,8 @@
 ghost use Rattle.std.specs.Prelude.{◌<◌};
 
 use crate::{MemOutside, play_within, run};
-use book_core::{Book, Event, Kind, Limits, Reply, StepFault};
+use book_core::{Book, Event, Limits, Reply, StepFault};
+use call_facts::Kind;
 use gw_base::{MemSink, MemSource, Sink, Source, Text};
 use std::alloc::Global;
 use std::test::Fail;
@@ -39,7 +40,7 @@ struct Row {
     status: u8,
 }
 
-const ROWS: [Row; 16] = [
+const ROWS: [Row; 15] = [
     Row {
         script: "",
         said: "",
@@ -67,13 +68,8 @@ const ROWS: [Row; 16] = [
     },
     Row {
         script: "text 0 t $context.stage\n",
-        said: "refused line 1 NotBuilt at ~\n",
-        status: 1,
-    },
-    Row {
-        script: "text 0 t #set($context.a=1)\n",
-        said: "refused line 1 NotBuilt at ~\n",
-        status: 1,
+        said: "done\n",
+        status: 0,
     },
     Row {
         script: "text 0 t ${input.body\n",
@@ -101,8 +97,8 @@ const ROWS: [Row; 16] = [
         status: 0,
     },
     Row {
-        script: "stage 0 a s 1 x=y\n",
-        said: "refused line 1 NotBuilt at ~\n",
+        script: "text 0 a x\ndeploy 0 a\nstage 0 a s 1 x=y z= x==y\nstage 0 a s 1 =y\nstage 0 a s 1 x=%FF\n",
+        said: "done\ndeployed 1\ndone\nrefused BadName\nrefused line 5 BadRecord at ~\n",
         status: 1,
     },
     Row {
@@ -308,27 +304,78 @@ fn a_full_session_is_told(rt: HostRuntime) -> Result<(), Fail> {
     Ok(())
 }
 
-// The interpreter renders what is neither text nor a reference to the body.
+/// A template, coded for a script, with the fields of its stage behind the deployment, what is posted, and the answer's
+/// last field and its body, coded.
+const CALLS: [(&str, &str, &str, &str); 7] = [
+    (
+        "#foreach($i%20in%20[1..3])$i$input.body#end",
+        "",
+        "x",
+        "6%0D%0A%0D%0A1x2x3x",
+    ),
+    (
+        "$stageVariables.env/$context.requestId",
+        " env=x",
+        "b",
+        "18%0D%0A%0D%0Ax/0000000000000003",
+    ),
+    (
+        "$stageVariables.a$!stageVariables.b$stageVariables.c",
+        " a=1 a=2 c=",
+        "b",
+        "1%0D%0A%0D%0A2",
+    ),
+    (
+        "$context.apiId.$context.stage.$context.deploymentId.$context.httpMethod.$context.path",
+        "",
+        "b",
+        "13%0D%0A%0D%0Aa.s.1.POST./s",
+    ),
+    (
+        "$input.params('host'),$input.params('content-length')",
+        "",
+        "abc",
+        "11%0D%0A%0D%0Alocalhost,3",
+    ),
+    (
+        "$input.json('$.a')|$input.json('$.b')",
+        "",
+        "{\"a\":%20[1,%202.50]}",
+        "11%0D%0A%0D%0A[1,2.50]|\"\"",
+    ),
+    (
+        "#set($context.requestOverride.header.a=1)$!context.requestOverride.header.a",
+        "",
+        "b",
+        "0%0D%0A%0D%0A",
+    ),
+];
+
+// A template sees the request, the call and the variables of the stage.
 #[test]
-fn a_call_is_rendered_by_the_interpreter(rt: HostRuntime) -> Result<(), Fail> {
+fn a_call_is_rendered_over_its_request(rt: HostRuntime) -> Result<(), Fail> {
     let alloc = rt.alloc();
-    let script =
-        "text 0 a #foreach($i%20in%20[1..3])$i$input.body#end\ndeploy 0 a\nstage 0 a s 1\npost 0 0 a s x\n";
-    let said =
-        "done\ndeployed 1\ndone\nanswer HTTP/1.1%20200%20OK%0D%0Acontent-type:%20text/plain%0D%0Acontent-length:%206%0D%0A%0D%0A1x2x3x\nended Closed\n";
-    let mut input = source(alloc, script, 4096, &[])?;
-    let mut output = MemSink::new(alloc, Vec::new(alloc));
-    assert_eq!(rt;
-        run(
-            alloc,
-            &words(alloc, "play")?,
-            &mut input,
-            &mut output,
-            &mut no_files(alloc)
-        ),
-        0
-    );
-    assert_eq!(rt; output.bytes(), said.as_bytes());
+    for (template, variables, body, answered) in &CALLS {
+        let script = format!(in alloc;
+            "text 0 a {template}\ndeploy 0 a\nstage 0 a s 1{variables}\npost 7 0 a s {body}\n"
+        )?;
+        let said = format!(in alloc;
+            "done\ndeployed 1\ndone\nanswer HTTP/1.1%20200%20OK%0D%0Acontent-type:%20text/plain%0D%0Acontent-length:%20{answered}\nended Closed\n"
+        )?;
+        let mut input = source(alloc, script.as_str(), 4096, &[])?;
+        let mut output = MemSink::new(alloc, Vec::new(alloc));
+        assert_eq!(rt;
+            run(
+                alloc,
+                &words(alloc, "play")?,
+                &mut input,
+                &mut output,
+                &mut no_files(alloc)
+            ),
+            0
+        );
+        assert_eq!(rt; output.bytes(), said.as_bytes(), "at {template}");
+    }
     Ok(())
 }
 

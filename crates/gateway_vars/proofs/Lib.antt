@@ -1,3 +1,4 @@
+mod LastWrites
 mod Placed
 mod Rows
 mod Utf8

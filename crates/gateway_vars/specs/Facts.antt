@@ -5,14 +5,15 @@ use Rattle.std.specs.Str.{bytes_eq}
 use Rattle.vtl_eval.specs.Roots.{Stepped, name, place, method}
 use Rattle.vtl_values.specs.Kinds.{text_in}
 use Rattle.vtl_values.specs.Val.{Val, null, boolean, whole, text}
+use Rattle.call_facts.specs.Kinds.{kind_name}
 use Rattle.gateway_vars.specs.Escapes.{hex_digits, json_string}
 use Rattle.gateway_vars.specs.Pairs.{Pairs, first_value, last_value, header_value}
 use Rattle.gateway_vars.specs.Target.{stage_path}
 use Rattle.gateway_vars.specs.Values.{text_or_null, name_or_null, only, both}
-use Rattle.gateway_vars.specs.declared.request.Request.{Request}
-use Rattle.gateway_vars.specs.declared.request.CallFacts.{CallFacts}
-use Rattle.gateway_vars.specs.declared.request.Claims.{Claims}
-use Rattle.gateway_vars.specs.declared.request.Refusal.{Refusal}
+use Rattle.call_facts.specs.declared.request.Request.{Request}
+use Rattle.call_facts.specs.declared.facts.CallFacts.{CallFacts}
+use Rattle.call_facts.specs.declared.facts.Claims.{Claims}
+use Rattle.call_facts.specs.declared.facts.Refusal.{Refusal}
 
 -- AWS: "$context variables". Those of one name: of the request,
 abbrev pub of_request : Request → List ℕ → Val
@@ -59,7 +60,7 @@ refusal_of None x = null
 refusal_of (Some e) x =
     if bytes_eq x (codes "message") then text e.message
     else if bytes_eq x (codes "messageString") then text (json_string e.message)
-    else if bytes_eq x (codes "responseType") then text e.kind
+    else if bytes_eq x (codes "responseType") then text (kind_name e.kind)
     else null
 
 unfoldable pub refusal_named : CallFacts → List ℕ → Val
@@ -112,4 +113,4 @@ variable_by ps None = null
 variable_by ps (Some s) = variable_step ps s
 
 unfoldable pub variable_value : CallFacts → List Stepped → Val
-variable_value f path = variable_by f.variables (only path)
+variable_value f path = variable_by f.variables.pairs (only path)

@@ -9,9 +9,9 @@ use Rattle.gateway_vars.specs.Facts.{context_value, variable_value}
 use Rattle.gateway_vars.specs.Input.{Params, input_value}
 use Rattle.gateway_vars.specs.Target.{query_pairs}
 use Rattle.gateway_vars.specs.Util.{util_value}
-use Rattle.gateway_vars.specs.declared.request.Request.{Request}
-use Rattle.gateway_vars.specs.declared.request.WireReply.{WireReply}
-use Rattle.gateway_vars.specs.declared.request.CallFacts.{CallFacts}
+use Rattle.call_facts.specs.declared.request.Request.{Request}
+use Rattle.call_facts.specs.declared.request.WireReply.{WireReply}
+use Rattle.call_facts.specs.declared.facts.CallFacts.{CallFacts}
 
 -- the body that $input speaks of, the request with its parameters, and the facts of the call
 pub record Held : Type 0 where

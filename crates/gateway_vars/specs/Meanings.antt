@@ -2,14 +2,14 @@
 use Rattle.vtl_eval.specs.Roots.{Meanings, Kept}
 use Rattle.gateway_vars.specs.Held.{Held, root}
 use Rattle.gateway_vars.specs.Rows.{kept_of}
-use Rattle.gateway_vars.specs.Writing.{writable}
+use Rattle.gateway_vars.specs.Writing.{kept_at}
 use Rattle.gateway_vars.specs.declared.roots.RequestRoots.{RequestRoots}
 use Rattle.gateway_vars.specs.declared.roots.ResponseRoots.{ResponseRoots}
 use Rattle.gateway_vars.specs.declared.slots.Side.{Side}
 
--- the value of each path below a root, and the paths that may be written
+-- the value of each path below a root, and under which path a write is kept
 abbrev pub meanings_of : Side → Held → Meanings
-meanings_of side held = record { value = root held; writable = writable side }
+meanings_of side held = record { value = root held; kept_at = kept_at side }
 
 -- what a request's roots are made from, and what was written
 abbrev pub request_held : RequestRoots → Held

@@ -20,6 +20,13 @@ behind_root path =
     else if starts_with path (codes "/") then past 47 path
     else []
 
+-- the API and the stage that a target names, as they are written: the first two parts of its path
+abbrev pub api_name : List ℕ → List ℕ
+api_name target = until 47 (behind_root (until 63 target))
+
+abbrev pub stage_name : List ℕ → List ℕ
+stage_name target = until 47 (past 47 (behind_root (until 63 target)))
+
 -- `/`, the stage and the rest of the path, as they are written: all behind the API, up to the query
 abbrev pub stage_path : List ℕ → List ℕ
 stage_path target = 47 ∷ past 47 (behind_root (until 63 target))

@@ -1,7 +1,8 @@
 -- Which paths below $context may be written, and what they write over.
-use Rattle.std.specs.Prelude.{ℕ, ◌==◌, Bool, List, [], ◌∷◌, length, Option, Some, None, is_some, if◌then◌else◌, codes}
+use Rattle.std.specs.Prelude.{ℕ, ◌==◌, List, [], ◌∷◌, length, Option, Some, None, if◌then◌else◌, codes}
 use Rattle.std.specs.Option.{option_map}
 use Rattle.std.specs.Str.{bytes_eq}
+use Rattle.gateway_vars.specs.Pairs.{lower}
 use Rattle.gateway_vars.specs.Values.{only}
 use Rattle.gateway_vars.specs.declared.slots.Side.{Side}
 use Rattle.gateway_vars.specs.declared.slots.Side.TheVariants as sides
@@ -45,5 +46,25 @@ unfoldable pub slot_of : Side → List (List ℕ) → Option (Part × List ℕ)
 slot_of side [] = None
 slot_of side (x ∷ rest) = if bytes_eq x (group_of side) then part_below side rest else None
 
-abbrev pub writable : Side → List (List ℕ) → Bool
-writable side path = is_some (slot_of side path)
+-- the name under which a write is kept: those of header fields are equal without regard to case (RFC 9110, section 5.1),
+-- so they are in lower case
+abbrev pub kept_name : Part → List ℕ → List ℕ
+kept_name parts.Header x = lower x
+kept_name parts.Query x = x
+kept_name parts.Path x = x
+kept_name parts.Status x = x
+
+-- the path of a part and a name
+abbrev pub path_at : Side → Part → List ℕ → List (List ℕ)
+path_at side parts.Header x = group_of side ∷ codes "header" ∷ x ∷ []
+path_at side parts.Query x = group_of side ∷ codes "querystring" ∷ x ∷ []
+path_at side parts.Path x = group_of side ∷ codes "path" ∷ x ∷ []
+path_at side parts.Status x = group_of side ∷ codes "status" ∷ []
+
+-- the part and the name that a path writes over, as a write to it is kept
+abbrev pub kept_slot : Side → List (List ℕ) → Option (Part × List ℕ)
+kept_slot side path = option_map (λ slot. (slot.0, kept_name slot.0 slot.1)) (slot_of side path)
+
+-- the path under which a write is kept, where it may be written
+abbrev pub kept_at : Side → List (List ℕ) → Option (List (List ℕ))
+kept_at side path = option_map (λ slot. path_at side slot.0 slot.1) (kept_slot side path)

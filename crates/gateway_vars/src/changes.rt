@@ -6,7 +6,6 @@ ghost use Rattle.gateway_vars.specs.Overriding.{put_pair as put_pair_of, nothing
 ghost use Rattle.gateway_vars.specs.Changes.{place_of as place_of_name};
 ghost use Rattle.gateway_vars.specs.Rows.{row_of, kept_of};
 
-use crate::pairs::lower;
 use crate::slots::{Part, Side, slot_of};
 use crate::table::Row;
 use gw_base::{Memory, Seq, Text};
@@ -91,7 +90,7 @@ fn changed(
     } = changes;
     match part {
         Part::Header => {
-            let headers = with_pair(headers, Text::of(lower(alloc, name)?), text)?;
+            let headers = with_pair(headers, Text::of(String::from_str(alloc, name)?), text)?;
             Ok(Overrides {
                 headers,
                 query,

@@ -10,10 +10,10 @@ ghost use Rattle.gateway_vars.specs.Facts.{of_request as of_request_of, of_call 
 
 use crate::escapes::{json_string, push_digits};
 use crate::pairs::{first_value, header_value, last_value};
-use crate::request::{CallFacts, Request};
 use crate::steps::{both_steps, only_step};
 use crate::target::stage_path;
 use crate::texts::{found_value, made_value, name_value, text_value};
+use call_facts::{CallFacts, Request};
 use gw_base::{Memory, Text};
 use itoa::Buffer;
 use std::alloc::Global;
@@ -135,7 +135,7 @@ fn refusal_named(alloc: Global, facts: &CallFacts, name: &str) -> Result<Value, 
             } else if name == "messageString" {
                 made_value(json_string(alloc, refusal.message.as_str())?)
             } else if name == "responseType" {
-                text_value(alloc, refusal.kind.as_str())
+                made_value(refusal.kind.to_string(alloc)?)
             } else {
                 Ok(Value::null())
             }
@@ -257,7 +257,7 @@ pub fn variable_value(alloc: Global, facts: &CallFacts, path: &[Step]) -> Result
     ensures { IfOk result (λ v. v ≡ variable_value_of facts.now (map stepped_of path.now)) }
 {
     match only_step(path) {
-        Some(step) => variable_step(alloc, facts.variables.as_slice(), step),
+        Some(step) => variable_step(alloc, facts.variables.value().pairs.as_slice(), step),
         None => Ok(Value::null()),
     }
 }

@@ -37,13 +37,13 @@
 //!
 //! What is promised: the roots mean `root` of `specs/Held.antt`, which says each value by the request, the facts and the
 //! reply alone; the paths that may be written are those of `slot_of` in `specs/Writing.antt`; and what `overrides` gives is
-//! `overridden` of `specs/Overriding.antt`: of each name the last value in the place of its first. Each function has the
-//! definition of its one value in its contract. [`Memory`](gw_base::Memory) is answered where memory is wanting, and where
+//! `overridden` of `specs/Overriding.antt`. As a law, [`laws::the_last_write_of_a_name_counts`]: that is what the writes put
+//! there one after another, of each name the last value in the place of its first, header names without regard to case.
+//! Each function has the definition of its one value in its contract. [`Memory`](gw_base::Memory) is answered where memory is wanting, and where
 //! a value that was written over has more than 268,435,456 bytes as it is printed.
 //!
-//! Left out: the roots of the gateway's own answers. Of two names of header fields that differ in case alone, the one that
-//! was first written later counts, even where the other is written again after it. Not promised: how long a call takes;
-//! names are searched from the first on.
+//! Left out: the roots of the gateway's own answers. Not promised: how long a call takes; names are searched from the
+//! first on.
 #![tactic(auto)]
 
 mod changes;
@@ -52,9 +52,9 @@ mod context;
 mod documents;
 mod escapes;
 mod input;
+pub mod laws;
 mod pairs;
 mod payload;
-mod request;
 mod roots;
 mod slots;
 mod sources;
@@ -64,6 +64,7 @@ mod target;
 mod texts;
 mod util;
 
+pub use call_facts::{CallFacts, Claims, Kind, Refusal, Request, Vars, WireReply};
 pub use changes::Overrides;
 pub use codings::{base64_decode, base64_encode, url_decode, url_encode};
 pub use context::{context_value, variable_value};
@@ -72,10 +73,9 @@ pub use escapes::{escape_java_script, json_string};
 pub use input::{Params, input_value};
 pub use pairs::{first_value, header_value, last_value, same_name};
 pub use payload::Payload;
-pub use request::{CallFacts, Claims, Refusal, Request, WireReply};
 pub use roots::{RequestRoots, ResponseRoots};
 pub use slots::{Part, Side, slot_of};
-pub use target::{query_pairs, stage_path};
+pub use target::{api_name, query_pairs, stage_name, stage_path};
 pub use util::util_value;
 
 #[cfg(test)]

@@ -6,10 +6,10 @@ ghost use Rattle.gateway_vars.specs.Meanings.{request_held, request_kept, respon
 ghost use Rattle.gateway_vars.specs.declared.slots.Side.TheVariants as sides;
 
 use crate::changes::{Overrides, overridden};
-use crate::request::{CallFacts, Request, WireReply};
-use crate::slots::{Side, slot_of};
+use crate::slots::{Side, kept_at};
 use crate::sources::Sources;
 use crate::table::{Row, put_row};
+use call_facts::{CallFacts, Request, WireReply};
 use gw_base::{Memory, Text};
 use resource_tree::Found;
 use std::alloc::Global;
@@ -17,10 +17,19 @@ use vtl_eval::{Root, Roots, Step};
 use vtl_values::Value;
 
 /// The roots of a request's template.
-#[derive(Drop)]
 pub struct RequestRoots<'a> {
     sources: Sources<'a>,
     rows: Vec<Row>,
+}
+
+// Written by hand, so that a function that lets the roots go makes one call.
+impl<'a> Drop for RequestRoots<'a> {
+    fn drop(self) {
+        let RequestRoots {
+            sources: _,
+            rows: _,
+        } = self;
+    }
 }
 
 impl<'a> RequestRoots<'a> {
@@ -64,9 +73,9 @@ impl<'a> Roots for RequestRoots<'a> {
     }
 
     fn write(&mut self, alloc: Global, path: &[Text], value: &Value) -> Result<bool, Memory> {
-        match slot_of(Side::Request, path) {
-            Some(_) => {
-                put_row(alloc, &mut self.rows, path, value)?;
+        match kept_at(alloc, Side::Request, path)? {
+            Some(path) => {
+                put_row(alloc, &mut self.rows, &path, value)?;
                 Ok(true)
             }
             None => Ok(false),
@@ -75,10 +84,19 @@ impl<'a> Roots for RequestRoots<'a> {
 }
 
 /// The roots of a response's template.
-#[derive(Drop)]
 pub struct ResponseRoots<'a> {
     sources: Sources<'a>,
     rows: Vec<Row>,
+}
+
+// Written by hand, so that a function that lets the roots go makes one call.
+impl<'a> Drop for ResponseRoots<'a> {
+    fn drop(self) {
+        let ResponseRoots {
+            sources: _,
+            rows: _,
+        } = self;
+    }
 }
 
 impl<'a> ResponseRoots<'a> {
@@ -123,9 +141,9 @@ impl<'a> Roots for ResponseRoots<'a> {
     }
 
     fn write(&mut self, alloc: Global, path: &[Text], value: &Value) -> Result<bool, Memory> {
-        match slot_of(Side::Response, path) {
-            Some(_) => {
-                put_row(alloc, &mut self.rows, path, value)?;
+        match kept_at(alloc, Side::Response, path)? {
+            Some(path) => {
+                put_row(alloc, &mut self.rows, &path, value)?;
                 Ok(true)
             }
             None => Ok(false),

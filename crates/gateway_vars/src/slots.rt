@@ -1,10 +1,12 @@
 // What a path below `$context` writes over.
-ghost use Rattle.std.specs.Prelude.{◌≡◌};
+ghost use Rattle.std.specs.Prelude.{◌≡◌, IfOk};
 ghost use Rattle.std.specs.Option.{option_map};
 ghost use Rattle.gateway_vars.specs.Values.{only};
-ghost use Rattle.gateway_vars.specs.Writing.{named as named_of, bare as bare_of, request_part as request_part_of, response_part as response_part_of, part_below as part_below_of, group_of, slot_of as slot_of_path};
+ghost use Rattle.gateway_vars.specs.Writing.{named as named_of, bare as bare_of, request_part as request_part_of, response_part as response_part_of, part_below as part_below_of, group_of, slot_of as slot_of_path, kept_name as kept_name_of, path_at as path_at_of, kept_at as kept_at_of};
 
-use gw_base::Text;
+use crate::pairs::lower;
+use gw_base::{Memory, Text};
+use std::alloc::Global;
 
 /// Whose template writes.
 #[derive(Clone, Copy)]
@@ -115,5 +117,59 @@ pub fn slot_of(side: Side, path: &[Text]) -> Option<(Part, &str)>
         part_below(side, rest)
     } else {
         None
+    }
+}
+
+// A text of its own.
+fn owned(alloc: Global, text: &str) -> Result<Text, Memory>
+    ensures { IfOk result (λ made. made ≡ text.now) }
+{
+    Ok(Text::of(String::from_str(alloc, text)?))
+}
+
+// The name under which a write is kept.
+fn kept_name(alloc: Global, part: Part, name: &str) -> Result<Text, Memory>
+    ensures { IfOk result (λ made. made ≡ kept_name_of part name.now) }
+{
+    match part {
+        Part::Header => Ok(Text::of(lower(alloc, name)?)),
+        Part::Query | Part::Path | Part::Status => owned(alloc, name),
+    }
+}
+
+// The path of a part and a name.
+fn path_at(alloc: Global, side: Side, part: Part, name: Text) -> Result<Vec<Text>, Memory>
+    ensures { IfOk result (λ made. made.items ≡ path_at_of side part name) }
+{
+    let mut path = Vec::new(alloc);
+    path.push(owned(alloc, group(side))?)?;
+    match part {
+        Part::Header => {
+            path.push(owned(alloc, "header")?)?;
+            path.push(name)?;
+        }
+        Part::Query => {
+            path.push(owned(alloc, "querystring")?)?;
+            path.push(name)?;
+        }
+        Part::Path => {
+            path.push(owned(alloc, "path")?)?;
+            path.push(name)?;
+        }
+        Part::Status => path.push(owned(alloc, "status")?)?,
+    }
+    Ok(path)
+}
+
+/// The path under which a write to a path below `$context` is kept; none where it may not be written.
+pub(crate) fn kept_at(alloc: Global, side: Side, path: &[Text]) -> Result<Option<Vec<Text>>, Memory>
+    ensures { IfOk result (λ kept. option_map (λ p. p.items) kept ≡ kept_at_of side path.now) }
+{
+    match slot_of(side, path) {
+        Some((part, name)) => {
+            let name = kept_name(alloc, part, name)?;
+            Ok(Some(path_at(alloc, side, part, name)?))
+        }
+        None => Ok(None),
     }
 }

@@ -1,7 +1,7 @@
 // The parts of a request's target.
 ghost use Rattle.std.specs.Prelude.{◌≡◌, ◌<◌, IfOk, map};
 ghost use Rattle.std.specs.String.{string_bytes};
-ghost use Rattle.gateway_vars.specs.Target.{until, past, behind_root as behind_root_of, stage_path as stage_path_of, query_pairs as query_pairs_of};
+ghost use Rattle.gateway_vars.specs.Target.{until, past, behind_root as behind_root_of, api_name as api_name_of, stage_name as stage_name_of, stage_path as stage_path_of, query_pairs as query_pairs_of};
 
 use crate::codings::decoded;
 use form_urlencoded::raw_pairs;
@@ -39,6 +39,36 @@ fn behind_root(path: &str) -> &str
     } else {
         ""
     }
+}
+
+fn until_slash(text: &str) -> &str
+    ensures { result.now ≡ until 47 text.now }
+{
+    let (front, _) = parted_at(text, '/');
+    front
+}
+
+// The path of a target behind its root.
+fn path(target: &str) -> &str
+    ensures { result.now ≡ behind_root_of (until 63 target.now) }
+{
+    let (path, _) = parted_at(target, '?');
+    behind_root(path)
+}
+
+/// The API that a target names: `/API/STAGE` and the rest, or the same behind `http://AUTHORITY`. It is taken as it is
+/// written; one that is missing is empty, and so is that of a target of another form.
+pub fn api_name(target: &str) -> &str
+    ensures { result.now ≡ api_name_of target.now }
+{
+    until_slash(path(target))
+}
+
+/// The stage that a target names, in the same way.
+pub fn stage_name(target: &str) -> &str
+    ensures { result.now ≡ stage_name_of target.now }
+{
+    until_slash(past_slash(path(target)))
 }
 
 /// `/`, the stage and the rest of the path of a target, as they are written.

@@ -1,7 +1,6 @@
-use crate::{
-    CallFacts, Claims, Overrides, Refusal, Request, RequestRoots, ResponseRoots, WireReply,
-};
-use gw_base::{Bytes, Memory, Name, Seq, Text};
+use crate::{Overrides, RequestRoots, ResponseRoots};
+use call_facts::{CallFacts, Claims, Kind, Refusal, Request, Vars, WireReply};
+use gw_base::{Bytes, Memory, Name, Seq, Shared, Text};
 use resource_tree::Found;
 use std::alloc::Global;
 use vtl_eval::{Roots, render};
@@ -53,7 +52,12 @@ fn facts(alloc: Global) -> Result<CallFacts, Memory> {
         at: 1_700_000_000_000,
         deployment: 12,
         canary: false,
-        variables: pairs(alloc, &[("env", "w"), ("env", "x")])?,
+        variables: Shared::new(
+            alloc,
+            Vars {
+                pairs: pairs(alloc, &[("env", "w"), ("env", "x")])?,
+            },
+        )?,
         resource: text(alloc, "/p/{path}")?,
         key: None,
         claims: None,
@@ -224,7 +228,7 @@ fn the_caller_and_the_refusal_have_values(rt: HostRuntime) {
         context: pairs(alloc, &[("team", "red"), ("principalId", "no")]).expect(&rt, "memory"),
     });
     facts.refusal = Some(Refusal {
-        kind: text(alloc, "THROTTLED").expect(&rt, "memory"),
+        kind: Kind::Throttled,
         message: text(alloc, "Too \"Many\"\n\u{1}/é").expect(&rt, "memory"),
     });
     let mut roots = asked(alloc, &request, &found, &facts).expect(&rt, "memory");

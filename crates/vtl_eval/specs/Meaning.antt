@@ -175,7 +175,7 @@ abbrev mutual
 -- a `#set`: with null it changes nothing, and below $context only what may be written
 abbrev pub set_to : Meanings → Target → Val → State → State
 set_to m (tree.variable x) v s = (named x v s.0, s.1)
-set_to m (tree.context xs) v s = (s.0, kept_after (m.writable xs) s.1 xs v)
+set_to m (tree.context xs) v s = (s.0, kept_after (m.kept_at xs) s.1 v)
 
 abbrev pub assigned : Meanings → Target → Val → State → State
 assigned m t v s = if is_null v then s else set_to m t v s

@@ -1,5 +1,5 @@
 -- What roots mean, and what was written below $context.
-use Rattle.std.specs.Prelude.{ℕ, Bool, true, false, ◌&&◌, List, [], ◌∷◌, if◌then◌else◌}
+use Rattle.std.specs.Prelude.{ℕ, Bool, true, false, ◌&&◌, List, [], ◌∷◌, Option, Some, None, if◌then◌else◌}
 use Rattle.std.specs.Str.{bytes_eq}
 use Rattle.vtl_values.specs.Val.{Val}
 use Rattle.vtl_eval.specs.declared.roots.Root.{Root}
@@ -10,10 +10,10 @@ pub data Stepped : Type 0 where
   place : Val → Stepped
   method : List ℕ → List Val → Stepped
 
--- the value of each path below a root, and which paths below $context may be written
+-- the value of each path below a root, and under which path a write below $context is kept, where it may be written
 pub record Meanings : Type 0 where
   pub value : Root → List Stepped → Val
-  pub writable : List (List ℕ) → Bool
+  pub kept_at : List (List ℕ) → Option (List (List ℕ))
 
 -- what was written: paths of names below $context, and their values
 abbrev pub Kept : Type 0
@@ -30,7 +30,7 @@ abbrev pub put_path : Kept → List (List ℕ) → Val → Kept
 put_path [] path value = (path, value) ∷ []
 put_path (first ∷ rest) path value = if same_path first.0 path then (path, value) ∷ rest else first ∷ put_path rest path value
 
--- what is kept after a write that was allowed, and after one that was not
-abbrev pub kept_after : Bool → Kept → List (List ℕ) → Val → Kept
-kept_after true kept path value = put_path kept path value
-kept_after false kept path value = kept
+-- what is kept after a write to a path that is kept there, and after one that may not be written
+abbrev pub kept_after : Option (List (List ℕ)) → Kept → Val → Kept
+kept_after None kept value = kept
+kept_after (Some path) kept value = put_path kept path value

@@ -1,5 +1,5 @@
 // What the references of a template stand for.
-ghost use Rattle.std.specs.Prelude.{◌≡◌, List, IfOk, OnErr, map};
+ghost use Rattle.std.specs.Prelude.{◌≡◌, List, IfOk, OnOk, OnErr, is_some, map};
 ghost use Rattle.vtl_eval.specs.Views.{stepped_of};
 ghost use Rattle.vtl_eval.specs.Roots.{Meanings, Kept, kept_after};
 
@@ -26,7 +26,7 @@ pub enum Step {
 
 /// The values below the four roots, and the places below `$context` to which a template may write.
 pub trait Roots {
-    /// The value of each path below a root, and which paths may be written.
+    /// The value of each path below a root, and under which path a write is kept, where it may be written.
     ghost meanings: { Self → Meanings };
 
     /// What was written, by path; a further write to a path takes the place of its first.
@@ -40,8 +40,8 @@ pub trait Roots {
 
     /// Writes a value to a path below `$context`, and answers whether the path may be written.
     fn write(&mut self, alloc: Global, path: &[Text], value: &Value) -> Result<bool, Memory>
-        ensures answer { IfOk result (λ b. b ≡ (meanings self.old).writable path.now) }
+        ensures answer { IfOk result (λ b. b ≡ is_some ((meanings self.old).kept_at path.now)) }
         ensures meanings { meanings self.new ≡ meanings self.old }
-        ensures ok { IfOk result (λ b. kept self.new ≡ kept_after b (kept self.old) path.now value.now) }
+        ensures ok { OnOk result (kept self.new ≡ kept_after ((meanings self.old).kept_at path.now) (kept self.old) value.now) }
         ensures err { OnErr result (kept self.new ≡ kept self.old) };
 }

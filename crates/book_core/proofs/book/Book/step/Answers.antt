@@ -1,9 +1,11 @@
-use Rattle.std.proofs.Common.{arith, ap, sym, ◌∙◌, ◌≡◌, [], ◌∷◌, ◌++◌, true}
+use Rattle.std.proofs.Common.{arith, rules, ap, sym, subst, ◌∙◌, ◌≡◌, [], ◌∷◌, ◌++◌, true}
 use Rattle.std.proofs.lemmas.Grind.{common_steps}
 use Rattle.std.proofs.lemmas.List.Sums.{sum_by-append}
 use Rattle.book_core.proofs.Histories.{state_after-more}
 use Rattle.book_core.specs.Machine.{after}
-use Rattle.book_core.specs.History.{state_after, size}
+use Rattle.book_core.proofs.Times.{reply_in_time}
+use Rattle.book_core.specs.History.{state_after, size, reply}
+use Rattle.book_core.specs.Times.{IsInTime}
 use Rattle.book_core.specs.Tables.{rows_of}
 use Rattle.book_core.specs.declared.events.Entry.{Entry}
 use Rattle.book_core.proofs.book.Book.step.Goals as goal
@@ -20,3 +22,8 @@ invariant_of-self-2 c =
       entries = grind (arith, common_steps);
       room = grind (arith, common_steps);
     }
+
+pub returns-clause-time : goal.returns-clause-time
+returns-clause-time c =
+    let is : c.in-Ok.reply ≡ reply c.args.self.now.base.opening c.args.self.now.history c.args.event true = search rules in
+    subst IsInTime (sym is) (reply_in_time c.args.self.now.base.opening c.args.self.now.history c.args.event true)

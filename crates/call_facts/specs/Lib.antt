@@ -1,0 +1,2 @@
+-- the gateway's own answers, by kind
+pub mod Kinds

@@ -1,0 +1,8 @@
+use Rattle.std.proofs.Common.{refl}
+use Rattle.std.specs.Fmt.{digits}
+use Rattle.http_edge.specs.Answers.{spelled}
+use Rattle.http_edge.proofs.refusal.busy_answer.Goals as goal
+
+pub returns : goal.returns
+unfolding spelled digits
+returns c = refl

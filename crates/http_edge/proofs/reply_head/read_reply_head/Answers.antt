@@ -1,0 +1,20 @@
+use Rattle.std.proofs.Common.{arith, ◌≡◌, ◌≤◌, ◌<◌, length, take}
+use Rattle.std.proofs.lemmas.List.{length-take}
+use Rattle.http_framing.proofs.RoomLemmas.{reply_long}
+use Rattle.http_edge.proofs.ReplySteps.{reply_stopped, reply_begun}
+use Rattle.http_edge.proofs.reply_head.read_reply_head.Goals as goal
+
+pub returns-in-Err-clause-head : goal.returns-in-Err-clause-head
+returns-in-Err-clause-head g c = reply_stopped _ _ c.await_reply_head.new.held _ c.args.limit c.await_reply_head.new.room c.in-Err.fault c.in-Err.ensures.head c.await_reply_head.ensures.taken (λ n. c.in-Err.ensures.same n)
+
+pub returns-in-Ok-begin-clause-head : goal.returns-in-Ok-begin-clause-head
+returns-in-Ok-begin-clause-head g c =
+    let at = c.in-Ok.ensures.head.0 in
+    reply_begun _ _ c.await_reply_head.new.held _ _ c.args.limit c.await_reply_head.new.room c.in-Ok.spans at.0 c.in-Ok-begin.begun at.1 (c.in-Ok-begin.ensures.begun at.0 at.1) c.in-Ok-begin.ensures.len c.in-Ok-begin.ensures.used (c.in-Ok.ensures.same (λ e. cc))
+
+pub returns-in-Ok-begin-clause-short : goal.returns-in-Ok-begin-clause-short
+returns-in-Ok-begin-clause-short g c =
+    let at = c.in-Ok.ensures.head.0 in (
+      omega (arith, c.in-Ok-begin.ensures.len, at.1.len, reply_long at.0 at.1.reads.0.fields),
+      omega (arith, c.in-Ok-begin.ensures.len, c.in-Ok.ensures.head.1.section.len_fits, length-take c.args.limit c.await_reply_head.new.held),
+    )

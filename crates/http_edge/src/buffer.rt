@@ -1,0 +1,58 @@
+// What is kept between two messages.
+ghost use Rattle.std.specs.Prelude.{◌≡◌, ◌≤◌, [], None, OnOk, length};
+ghost use Rattle.http_edge.specs.Buffers.{emptied};
+
+use gw_base::Memory;
+use http_framing::{EdgeFault, Held, ROOM};
+use httparse::spans::{EMPTY_HEADER_SPAN, HeaderSpan};
+use std::alloc::Global;
+use std::marker::Model;
+
+/// The bytes of a connection that were taken and are not yet used, and the fault that is answered again. One buffer
+/// serves one connection.
+#[derive(Drop)]
+pub struct Buffer {
+    pub(crate) held: Held,
+    pub(crate) room: Vec<HeaderSpan>,
+    pub(crate) fault: Option<EdgeFault>,
+}
+
+impl Model for Buffer {
+    ghost use Rattle.http_edge.specs.Buffers.{Pending};
+
+    ghost Value = { Pending };
+
+    ghost view = { λ b. record { bytes = b.held; fault = b.fault } };
+}
+
+impl Buffer {
+    /// A buffer that holds nothing, without memory.
+    pub fn new(alloc: Global) -> Self
+        ensures { result ≡ record { bytes = []; fault = None } }
+    {
+        Buffer {
+            held: Held::new(alloc),
+            room: Vec::new(alloc),
+            fault: None,
+        }
+    }
+
+    // Keeps this fault, and nothing else.
+    pub(crate) fn stop(&mut self, alloc: Global, fault: EdgeFault)
+        ensures { self.new ≡ emptied fault }
+    {
+        self.held = Held::new(alloc);
+        self.room = Vec::new(alloc);
+        self.fault = Some(fault);
+    }
+}
+
+/// Room for the fields of a head, which is taken once for a connection.
+pub(crate) fn make_room(alloc: Global, room: &mut Vec<HeaderSpan>) -> Result<(), Memory>
+    ensures { OnOk result (3414 ≤ length room.new.items) }
+{
+    if room.len() < ROOM {
+        *room = Vec::from_elem(alloc, EMPTY_HEADER_SPAN, ROOM)?;
+    }
+    Ok(())
+}

@@ -1,0 +1,11 @@
+pub mod Overs
+pub mod RoomLemmas
+pub mod TargetLemmas
+pub mod Digits
+pub mod ChunkGrows
+pub mod ChunkJoins
+pub mod Fronts
+pub mod Grows
+pub mod Steps
+pub mod Unique
+pub mod BodyUnique

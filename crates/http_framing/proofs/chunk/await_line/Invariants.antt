@@ -1,0 +1,22 @@
+use Rattle.std.proofs.Common.{◌≡◌, ◌≤◌, ◌-◌, ◌+◌, length}
+use Rattle.std.specs.Io.KnownBytes.{IsAtEnd}
+use Rattle.gw_base.specs.Outside.{Rose}
+use Rattle.http_framing.specs.Stream.{SameBytes, Takes, looks_left}
+use Rattle.http_framing.specs.declared.fill.Filled.TheVariants.{End, Fault}
+use Rattle.http_framing.proofs.chunk.await_line.Given as goal
+
+-- what is held was taken from the source, and the last read told what it told
+abbrev pub invariant-loop-len : goal.invariant-loop-len
+invariant-loop-len g l =
+    let left = g.S.Source.left in
+    record {
+      same : SameBytes l.fn.held (left l.fn.source) l.held (left l.source);
+      taken : Takes (left l.fn.source) (left l.source);
+      end : l.filled ≡ End → IsAtEnd (left l.source);
+      rose : l.filled ≡ Fault → Rose (g.S.Source.faults l.fn.source) (g.S.Source.faults l.source);
+      later : g.S.Source.faults l.fn.source ≤ g.S.Source.faults l.source;
+      beside : g.S.Source.beside l.source ≡ g.S.Source.beside l.fn.source;
+    }
+
+abbrev pub decreases-loop-len : goal.decreases-loop-len
+decreases-loop-len g l = 1024 - length l.held + looks_left l.filled

@@ -1,0 +1,55 @@
+-- What one message does to a book.
+use Rattle.std.specs.Prelude.{ℕ, ◌==◌, Bool, true, List, [], ◌∷◌, ◌++◌, length, codes, Result, Ok, Err, if◌then◌else◌}
+use Rattle.std.specs.Str.{bytes_eq}
+use Rattle.book_core.specs.History.{Base, is_full, reply, total_size}
+use Rattle.book_core.specs.declared.events.Entry.{Entry}
+use Rattle.book_core.specs.declared.events.Event.{Event}
+use Rattle.book_core.specs.declared.events.Event.TheVariants.{Enter, Leave}
+use Rattle.book_core.specs.declared.events.Limits.{Limits}
+use Rattle.call_facts.specs.declared.request.Request.{Request}
+use Rattle.http_edge.specs.Answers.{spelled}
+use Rattle.play_connection.specs.Answering.{Made, made_for}
+use Rattle.play_connection.specs.Closing.{closes}
+use Rattle.gateway_vars.specs.Target.{api_name, stage_name}
+use Rattle.play_connection.specs.declared.ended.Fullness.{Fullness}
+
+-- a message that was answered: the history behind its Leave, the bytes, and whether the connection closes
+pub record Exchange : Type 0 where
+  pub history : List Entry
+  pub bytes : List ℕ
+  pub closes : Bool
+
+-- a step that was refused, since the session is full
+pub record Refused : Type 0 where
+  pub history : List Entry
+  pub full : Fullness
+
+-- the history with an event of the one seat, or the numbers that show that it is full
+abbrev pub taken : Limits → List Entry → Event → Result (List Entry) Fullness
+taken limits history event =
+    if is_full limits history event then Err (record { entries = length history; bytes = total_size history })
+    else Ok (history ++ record { seat = 0; event = event; kept = true } ∷ [])
+
+-- where there is room
+abbrev pub with_room : List Entry → Result (List Entry) Fullness → (List Entry → Result Exchange Refused) → Result Exchange Refused
+with_room history (Ok after) next = next after
+with_room history (Err full) next = Err (record { history = history; full = full })
+
+-- a request comes to the stage that its target names
+abbrev pub entry_of : ℕ → ℕ → Request → Event
+entry_of moment word r = Enter moment word (api_name r.target) (stage_name r.target)
+
+abbrev pub is_head : Request → Bool
+is_head r = bytes_eq r.method (codes "HEAD")
+
+-- a message that was answered leaves, before the first byte of its answer is written
+abbrev pub left : Limits → ℕ → Bool → Request → List Entry → Made → Result Exchange Refused
+left limits number large r history made =
+    with_room history (taken limits history (Leave made.answer.status made.cause))
+    (λ after. Ok (record { history = after; bytes = spelled made.answer (is_head r) (closes number large r); closes = closes number large r }))
+
+-- the message of this number, which is too large or whole, at this moment and with this word
+unfoldable pub served : Base → ℕ → ℕ → ℕ → List Entry → Bool → Request → Result Exchange Refused
+served base moment word number history large r =
+    with_room history (taken base.limits history (entry_of moment word r))
+    (λ entered. left base.limits number large r entered (made_for large (reply base.opening history (entry_of moment word r) true) r))

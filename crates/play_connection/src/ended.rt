@@ -1,0 +1,46 @@
+// How a connection ends.
+use std::fmt;
+
+/// The history is full: it has this many entries, and its events' texts this many bytes.
+#[derive(Clone, Copy, Debug, PartialEq, Eq)]
+pub struct Fullness {
+    pub entries: u32,
+    pub bytes: u64,
+}
+
+/// How a connection ended.
+#[derive(Clone, Copy, Debug, PartialEq, Eq)]
+pub enum Ended {
+    /// The input ended at a message's end, or the last message that was answered closes the connection.
+    Closed,
+    /// The input ended so many bytes behind the beginning of a message.
+    Cut(u64),
+    /// What stands next is no head (RFC 9112, section 2).
+    BadHead,
+    /// A chunk is not written as one (RFC 9112, section 7.1).
+    BadChunk,
+    /// A head, or the trailers of a body, passes its limit.
+    HeadTooLong,
+    /// A step of the message in hand was refused, since the session is full: it has this many entries, and its events' texts
+    /// this many bytes.
+    SessionFull { entries: u32, bytes: u64 },
+}
+
+/// Prints its name, with its numbers in brackets, as `Cut(65)`.
+impl fmt::Display for Ended {
+    ghost use Rattle.std.specs.Prelude.{Some};
+    ghost use Rattle.play_connection.specs.Printed.{ended_name};
+
+    ghost output = { λ ended. Some (ended_name ended) };
+
+    fn fmt<W: fmt::Write>(&self, f: &mut fmt::Formatter<W>) -> fmt::Result {
+        match self {
+            Ended::Closed => f.write_str("Closed"),
+            Ended::Cut(n) => write!(f, "Cut({n})"),
+            Ended::BadHead => f.write_str("BadHead"),
+            Ended::BadChunk => f.write_str("BadChunk"),
+            Ended::HeadTooLong => f.write_str("HeadTooLong"),
+            Ended::SessionFull { entries, bytes } => write!(f, "SessionFull({entries},{bytes})"),
+        }
+    }
+}

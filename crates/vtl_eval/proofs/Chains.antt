@@ -2,6 +2,7 @@
 use Rattle.std.proofs.Common.{◌≡◌, ℕ, List, [], ◌∷◌, refl, sym, ◌∙◌, ap, Result, Ok, Err}
 use Rattle.vtl_grammar.specs.Tree.{Expr, binary}
 use Rattle.vtl_words.specs.Views.{op_of}
+use Rattle.vtl_grammar.specs.Expanded.{Arguments, expr_with}
 use Rattle.vtl_reader.specs.Nodes.{chained}
 use Rattle.vtl_reader.specs.declared.nodes.Link.{Link}
 use Rattle.vtl_values.specs.Val.{Val}
@@ -51,3 +52,11 @@ module _ (b : ℕ) (m : Meanings) (f : ℕ → Expr) where
 
       rest : Val × State → Outcome Val
       rest v = linked b m f ls v.0 v.1
+
+-- a chain in which arguments stand for parameters
+chained_with : (a : Arguments) (f : ℕ → Expr) (x : Expr) (ls : List Link) → expr_with a (chained f x ls) ≡ chained (λ k. expr_with a (f k)) (expr_with a x) ls
+chained_with a f x [] = refl
+chained_with a f x (l ∷ ls) = chained_with a f (binary (op_of l.operator) x (f l.operand)) ls
+
+pub chain_seen : (b : ℕ) (m : Meanings) (a : Arguments) (f : ℕ → Expr) (x : Expr) (ls : List Link) (s : State) → value b m (expr_with a (chained f x ls)) s ≡ chain b m (λ k. expr_with a (f k)) (expr_with a x) ls s
+chain_seen b m a f x ls s = ap (λ z. value b m z s) (chained_with a f x ls) ∙ chain_value b m (λ k. expr_with a (f k)) (expr_with a x) ls s

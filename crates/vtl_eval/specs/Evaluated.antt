@@ -1,6 +1,6 @@
 -- References and chains, as they are evaluated.
 use Rattle.std.specs.Prelude.{ℕ, List, [], ◌∷◌, ◌++◌, Result, Ok, Err}
-use Rattle.vtl_grammar.specs.Tree.{Expr, Steps}
+use Rattle.vtl_grammar.specs.Tree.{Expr, Base, Steps}
 use Rattle.vtl_words.specs.Views.{op_of}
 use Rattle.vtl_reader.specs.declared.nodes.Link.{Link}
 use Rattle.vtl_values.specs.Val.{Val}
@@ -8,13 +8,14 @@ use Rattle.vtl_values.specs.Printed.{printed}
 use Rattle.vtl_eval.specs.Roots.{Meanings}
 use Rattle.vtl_eval.specs.World.{Scene, State, Outcome, ◌>>=◌, spend, there}
 use Rattle.vtl_eval.specs.declared.stop.Limit.{Limit}
-use Rattle.vtl_eval.specs.References.{Reached, begun, ended}
-use Rattle.vtl_eval.specs.Meaning.{value, walked, operated}
+use Rattle.vtl_eval.specs.References.{ended}
+use Rattle.vtl_eval.specs.Meaning.{value, started, walked, operated}
 
--- a reference to a name
-abbrev pub referred : ℕ → Meanings → List ℕ → Steps → State → Outcome Val
+-- a reference
+abbrev pub referred : ℕ → Meanings → Base → Steps → State → Outcome Val
 referred b m x ss s = do
-  q ← walked b m ss (begun x s.0.names) s
+  r ← started b m x s
+  q ← walked b m ss r.0 r.1
   ended m q.0 q.1
 
 abbrev pub further : Result Scene Limit → (Scene → Result Scene Limit) → Result Scene Limit

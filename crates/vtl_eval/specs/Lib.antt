@@ -1,5 +1,11 @@
 -- references and chains, as they are evaluated
 pub mod Evaluated
+-- calls of macros that do nothing
+pub mod Idle
+-- what holds of calls that are passed over
+pub mod Laws
+-- the arguments that a frame stands for
+pub mod Frames
 -- what the program's values say
 pub mod Views
 -- what a template renders to, what it costs, and where it stops

@@ -1,14 +1,17 @@
 // Expressions.
-ghost use Rattle.std.specs.Prelude.{◌≡◌, ◌≤◌, ◌<◌, length, IfOk};
+ghost use Rattle.std.specs.Prelude.{◌≡◌, ◌≤◌, ◌<◌, IsTrue, length, IfOk};
+ghost use Rattle.vtl_grammar.specs.Tree.{named};
+ghost use Rattle.vtl_grammar.specs.Expanded.{base_with, exprs_with, pairs_with, part_with, parts_with, step_with, steps_with};
 ghost use Rattle.vtl_values.specs.Making.{listed};
 ghost use Rattle.vtl_values.specs.Printed.{printed};
 ghost use Rattle.vtl_words.specs.Views.{op_of};
 ghost use Rattle.vtl_reader.specs.Nodes.{expr_of, exprs_made, step_made, steps_made, part_made, parts_made, pairs_made, AllBelow, StepBelow, StepsBelow, PartBelow, PartsBelow, PairsBelow, LinksBelow};
-ghost use Rattle.vtl_eval.specs.References.{begun, settled};
-ghost use Rattle.vtl_eval.specs.Meaning.{value, values_of, pairs_of, piece, pieces, stepped, walked, operated};
+ghost use Rattle.vtl_eval.specs.Frames.{arguments_of, is_sound, seen};
+ghost use Rattle.vtl_eval.specs.Meaning.{value, started, values_of, pairs_of, piece, pieces, stepped, walked, operated};
 ghost use Rattle.vtl_eval.specs.Views.{Gives, Does, scene_of, reached_of};
 ghost use Rattle.vtl_eval.specs.Evaluated.{referred, chain, linked, charge};
 
+use crate::frame::{Frame, argument};
 use crate::operators::{compute, settled_by};
 use crate::pieces::{Pieces, text_value};
 use crate::reached::Reached;
@@ -49,17 +52,19 @@ fn listed_value(alloc: Global, values: Vec<Value>) -> Result<Value, Memory>
 
 // The expression with this number.
 #[cycle(eval)]
-#[tactic(auto, using(crate::proofs::Chains::chain_value))]
-pub fn eval<R: Roots>(
+#[tactic(auto, using(crate::proofs::Chains::chain_seen))]
+pub fn eval<'a, R: Roots>(
     alloc: Global,
     roots: &mut R,
     arena: &Arena,
+    frame: &'a Frame<'a>,
     budget: u64,
     run: &mut Run,
     k: usize,
 ) -> Result<Value, Fail>
+    requires frame { IsTrue (is_sound (length arena.now.exprs) frame.now) }
     requires stands { k < length arena.now.exprs }
-    ensures gives { Gives (λ v. v) result (scene_of run.new) (R.kept roots.new) (value budget (R.meanings roots.old) (expr_of arena.now.exprs k) (scene_of run.old, R.kept roots.old)) }
+    ensures gives { Gives (λ v. v) result (scene_of run.new) (R.kept roots.new) (value budget (R.meanings roots.old) (seen arena.now.exprs frame.now k) (scene_of run.old, R.kept roots.old)) }
     ensures same { R.meanings roots.new ≡ R.meanings roots.old }
 {
     match arena.expr(k) {
@@ -78,57 +83,71 @@ pub fn eval<R: Roots>(
         }
         ExprNode::Joined(parts) => {
             spend(budget, run)?;
-            let pieces = eval_pieces(alloc, roots, arena, budget, run, parts, k)?;
+            let pieces = eval_pieces(alloc, roots, arena, frame, budget, run, parts, k)?;
             pieces.join(alloc, run)
         }
         ExprNode::Negated(j) => {
             spend(budget, run)?;
-            let v = eval(alloc, roots, arena, budget, run, *j)?;
+            let v = eval(alloc, roots, arena, frame, budget, run, *j)?;
             Ok(Value::boolean(!v.is_true()))
         }
-        ExprNode::Chain(j, links) => eval_chain(alloc, roots, arena, budget, run, *j, links, k),
+        ExprNode::Chain(j, links) => eval_chain(
+            alloc, roots, arena, frame, budget, run, *j, links, k,
+        ),
         ExprNode::List(ids) => {
             spend(budget, run)?;
-            let values = eval_all(alloc, roots, arena, budget, run, ids, k)?;
+            let values = eval_all(alloc, roots, arena, frame, budget, run, ids, k)?;
             Ok(listed_value(alloc, values)?)
         }
         ExprNode::Range(i, j) => {
             spend(budget, run)?;
-            let first = eval(alloc, roots, arena, budget, run, *i)?;
-            let last = eval(alloc, roots, arena, budget, run, *j)?;
+            let first = eval(alloc, roots, arena, frame, budget, run, *i)?;
+            let last = eval(alloc, roots, arena, frame, budget, run, *j)?;
             Ok(ranged(&first, &last))
         }
         ExprNode::Map(pairs) => {
             spend(budget, run)?;
-            let maker = eval_pairs(alloc, roots, arena, budget, run, pairs, k)?;
+            let maker = eval_pairs(alloc, roots, arena, frame, budget, run, pairs, k)?;
             Ok(maker.close(alloc)?)
         }
         ExprNode::Reference(name, steps) => {
             spend(budget, run)?;
-            refer(alloc, roots, arena, budget, run, name.as_str(), steps, k)
+            refer(
+                alloc,
+                roots,
+                arena,
+                frame,
+                budget,
+                run,
+                name.as_str(),
+                steps,
+                k,
+            )
         }
     }
 }
 
 // Expressions in order.
 #[cycle(eval)]
-fn eval_all<R: Roots>(
+fn eval_all<'a, R: Roots>(
     alloc: Global,
     roots: &mut R,
     arena: &Arena,
+    frame: &'a Frame<'a>,
     budget: u64,
     run: &mut Run,
     ids: &[usize],
     below: usize,
 ) -> Result<Vec<Value>, Fail>
+    requires frame { IsTrue (is_sound (length arena.now.exprs) frame.now) }
     requires stands { below ≤ length arena.now.exprs }
     requires ids { AllBelow below ids.now }
-    ensures gives { Gives (λ vs. vs.items) result (scene_of run.new) (R.kept roots.new) (values_of budget (R.meanings roots.old) (exprs_made (expr_of arena.now.exprs) ids.now) (scene_of run.old, R.kept roots.old)) }
+    ensures gives { Gives (λ vs. vs.items) result (scene_of run.new) (R.kept roots.new) (values_of budget (R.meanings roots.old) (exprs_with (arguments_of arena.now.exprs frame.now) (exprs_made (expr_of arena.now.exprs) ids.now)) (scene_of run.old, R.kept roots.old)) }
     ensures same { R.meanings roots.new ≡ R.meanings roots.old }
 {
     let mut values = Vec::new(alloc);
     for k in ids {
-        let v = eval(alloc, roots, arena, budget, run, *k)?;
+        let v = eval(alloc, roots, arena, frame, budget, run, *k)?;
         values.push(v)?;
     }
     Ok(values)
@@ -136,24 +155,26 @@ fn eval_all<R: Roots>(
 
 // The keys and values of a map, in order.
 #[cycle(eval)]
-fn eval_pairs<R: Roots>(
+fn eval_pairs<'a, R: Roots>(
     alloc: Global,
     roots: &mut R,
     arena: &Arena,
+    frame: &'a Frame<'a>,
     budget: u64,
     run: &mut Run,
     pairs: &[Pair],
     below: usize,
 ) -> Result<MapMaker, Fail>
+    requires frame { IsTrue (is_sound (length arena.now.exprs) frame.now) }
     requires stands { below ≤ length arena.now.exprs }
     requires pairs { PairsBelow below pairs.now }
-    ensures gives { Gives (λ m. m) result (scene_of run.new) (R.kept roots.new) (pairs_of budget (R.meanings roots.old) (pairs_made (expr_of arena.now.exprs) pairs.now) (scene_of run.old, R.kept roots.old)) }
+    ensures gives { Gives (λ m. m) result (scene_of run.new) (R.kept roots.new) (pairs_of budget (R.meanings roots.old) (pairs_with (arguments_of arena.now.exprs frame.now) (pairs_made (expr_of arena.now.exprs) pairs.now)) (scene_of run.old, R.kept roots.old)) }
     ensures same { R.meanings roots.new ≡ R.meanings roots.old }
 {
     let mut maker = MapMaker::new(alloc);
     for pair in pairs {
-        let key = eval(alloc, roots, arena, budget, run, pair.key)?;
-        let v = eval(alloc, roots, arena, budget, run, pair.value)?;
+        let key = eval(alloc, roots, arena, frame, budget, run, pair.key)?;
+        let v = eval(alloc, roots, arena, frame, budget, run, pair.value)?;
         maker.put(&key, v)?;
     }
     Ok(maker)
@@ -161,23 +182,25 @@ fn eval_pairs<R: Roots>(
 
 // The parts of a double-quoted string, in order.
 #[cycle(eval)]
-fn eval_pieces<R: Roots>(
+fn eval_pieces<'a, R: Roots>(
     alloc: Global,
     roots: &mut R,
     arena: &Arena,
+    frame: &'a Frame<'a>,
     budget: u64,
     run: &mut Run,
     parts: &[Part],
     below: usize,
 ) -> Result<Pieces, Fail>
+    requires frame { IsTrue (is_sound (length arena.now.exprs) frame.now) }
     requires stands { below ≤ length arena.now.exprs }
     requires parts { PartsBelow below parts.now }
-    ensures gives { Gives (λ p. p) result (scene_of run.new) (R.kept roots.new) (pieces budget (R.meanings roots.old) (parts_made (expr_of arena.now.exprs) parts.now) (scene_of run.old, R.kept roots.old)) }
+    ensures gives { Gives (λ p. p) result (scene_of run.new) (R.kept roots.new) (pieces budget (R.meanings roots.old) (parts_with (arguments_of arena.now.exprs frame.now) (parts_made (expr_of arena.now.exprs) parts.now)) (scene_of run.old, R.kept roots.old)) }
     ensures same { R.meanings roots.new ≡ R.meanings roots.old }
 {
     let mut gathered = Pieces::new(alloc);
     for part in parts {
-        let v = eval_piece(alloc, roots, arena, budget, run, part, below)?;
+        let v = eval_piece(alloc, roots, arena, frame, budget, run, part, below)?;
         gathered.push(v)?;
     }
     Ok(gathered)
@@ -185,34 +208,40 @@ fn eval_pieces<R: Roots>(
 
 // A part of a double-quoted string.
 #[cycle(eval)]
-fn eval_piece<R: Roots>(
+fn eval_piece<'a, R: Roots>(
     alloc: Global,
     roots: &mut R,
     arena: &Arena,
+    frame: &'a Frame<'a>,
     budget: u64,
     run: &mut Run,
     part: &Part,
     below: usize,
 ) -> Result<Value, Fail>
+    requires frame { IsTrue (is_sound (length arena.now.exprs) frame.now) }
     requires stands { below ≤ length arena.now.exprs }
     requires part { PartBelow below part.now }
-    ensures gives { Gives printed result (scene_of run.new) (R.kept roots.new) (piece budget (R.meanings roots.old) (part_made (expr_of arena.now.exprs) part.now) (scene_of run.old, R.kept roots.old)) }
+    ensures gives { Gives printed result (scene_of run.new) (R.kept roots.new) (piece budget (R.meanings roots.old) (part_with (arguments_of arena.now.exprs frame.now) (part_made (expr_of arena.now.exprs) part.now)) (scene_of run.old, R.kept roots.old)) }
     ensures same { R.meanings roots.new ≡ R.meanings roots.old }
 {
     match part {
         Part::Bytes(text) => Ok(text_value(alloc, text.as_str())?),
         Part::Printed(source, name, steps) => {
             spend(budget, run)?;
-            let v = refer(
+            let v = match refer(
                 alloc,
                 roots,
                 arena,
+                frame,
                 budget,
                 run,
                 name.as_str(),
                 steps,
                 below,
-            )?;
+            ) {
+                Ok(v) => v,
+                Err(e) => return Err(e),
+            };
             Ok(shown_value(alloc, source.as_str(), v)?)
         }
     }
@@ -220,42 +249,46 @@ fn eval_piece<R: Roots>(
 
 // A chain of operators of one rank, from the left.
 #[cycle(eval)]
-fn eval_chain<R: Roots>(
+fn eval_chain<'a, R: Roots>(
     alloc: Global,
     roots: &mut R,
     arena: &Arena,
+    frame: &'a Frame<'a>,
     budget: u64,
     run: &mut Run,
     first: usize,
     links: &[Link],
     below: usize,
 ) -> Result<Value, Fail>
+    requires frame { IsTrue (is_sound (length arena.now.exprs) frame.now) }
     requires stands { below ≤ length arena.now.exprs }
     requires first { first < below }
     requires links { LinksBelow below links.now }
-    ensures gives { Gives (λ v. v) result (scene_of run.new) (R.kept roots.new) (chain budget (R.meanings roots.old) (expr_of arena.now.exprs) (expr_of arena.now.exprs first) links.now (scene_of run.old, R.kept roots.old)) }
+    ensures gives { Gives (λ v. v) result (scene_of run.new) (R.kept roots.new) (chain budget (R.meanings roots.old) (seen arena.now.exprs frame.now) (seen arena.now.exprs frame.now first) links.now (scene_of run.old, R.kept roots.old)) }
     ensures same { R.meanings roots.new ≡ R.meanings roots.old }
 {
     spend_all(budget, run, links)?;
-    let v = eval(alloc, roots, arena, budget, run, first)?;
-    eval_links(alloc, roots, arena, budget, run, v, links, below)
+    let v = eval(alloc, roots, arena, frame, budget, run, first)?;
+    eval_links(alloc, roots, arena, frame, budget, run, v, links, below)
 }
 
 // Further operands, each behind the value so far.
 #[cycle(eval)]
-fn eval_links<R: Roots>(
+fn eval_links<'a, R: Roots>(
     alloc: Global,
     roots: &mut R,
     arena: &Arena,
+    frame: &'a Frame<'a>,
     budget: u64,
     run: &mut Run,
     first: Value,
     links: &[Link],
     below: usize,
 ) -> Result<Value, Fail>
+    requires frame { IsTrue (is_sound (length arena.now.exprs) frame.now) }
     requires stands { below ≤ length arena.now.exprs }
     requires links { LinksBelow below links.now }
-    ensures gives { Gives (λ v. v) result (scene_of run.new) (R.kept roots.new) (linked budget (R.meanings roots.old) (expr_of arena.now.exprs) links.now first (scene_of run.old, R.kept roots.old)) }
+    ensures gives { Gives (λ v. v) result (scene_of run.new) (R.kept roots.new) (linked budget (R.meanings roots.old) (seen arena.now.exprs frame.now) links.now first (scene_of run.old, R.kept roots.old)) }
     ensures same { R.meanings roots.new ≡ R.meanings roots.old }
 {
     let mut v = first;
@@ -264,6 +297,7 @@ fn eval_links<R: Roots>(
             alloc,
             roots,
             arena,
+            frame,
             budget,
             run,
             v,
@@ -276,102 +310,136 @@ fn eval_links<R: Roots>(
 
 // An operator behind its first operand.
 #[cycle(eval)]
-fn eval_link<R: Roots>(
+fn eval_link<'a, R: Roots>(
     alloc: Global,
     roots: &mut R,
     arena: &Arena,
+    frame: &'a Frame<'a>,
     budget: u64,
     run: &mut Run,
     first: Value,
     operator: Operator,
     operand: usize,
 ) -> Result<Value, Fail>
+    requires frame { IsTrue (is_sound (length arena.now.exprs) frame.now) }
     requires stands { operand < length arena.now.exprs }
-    ensures gives { Gives (λ v. v) result (scene_of run.new) (R.kept roots.new) (operated (op_of operator) first (value budget (R.meanings roots.old) (expr_of arena.now.exprs operand)) (scene_of run.old, R.kept roots.old)) }
+    ensures gives { Gives (λ v. v) result (scene_of run.new) (R.kept roots.new) (operated (op_of operator) first (value budget (R.meanings roots.old) (seen arena.now.exprs frame.now operand)) (scene_of run.old, R.kept roots.old)) }
     ensures same { R.meanings roots.new ≡ R.meanings roots.old }
 {
     match settled_by(operator, &first) {
         Some(truth) => Ok(Value::boolean(truth)),
         None => {
-            let second = eval(alloc, roots, arena, budget, run, operand)?;
+            let second = eval(alloc, roots, arena, frame, budget, run, operand)?;
             compute(alloc, run, operator, &first, &second)
         }
     }
 }
 
-// The value of a reference to a name.
+// What a name begins with: a parameter with the value of its argument, in the frame of the call.
 #[cycle(eval)]
-pub fn refer<R: Roots>(
+fn begin_in<'a, R: Roots>(
     alloc: Global,
     roots: &mut R,
     arena: &Arena,
+    frame: &'a Frame<'a>,
+    budget: u64,
+    run: &mut Run,
+    name: &str,
+) -> Result<Reached, Fail>
+    requires frame { IsTrue (is_sound (length arena.now.exprs) frame.now) }
+    ensures gives { Gives reached_of result (scene_of run.new) (R.kept roots.new) (started budget (R.meanings roots.old) (base_with (arguments_of arena.now.exprs frame.now) (named name.now)) (scene_of run.old, R.kept roots.old)) }
+    ensures same { R.meanings roots.new ≡ R.meanings roots.old }
+{
+    match argument(arena, frame, name) {
+        Some((k, caller)) => {
+            let v = eval(alloc, roots, arena, caller, budget, run, k)?;
+            Ok(Reached::Value(v))
+        }
+        None => Ok(begin_reference(run, alloc, name)?),
+    }
+}
+
+// The value of a reference to a name.
+#[cycle(eval)]
+pub fn refer<'a, R: Roots>(
+    alloc: Global,
+    roots: &mut R,
+    arena: &Arena,
+    frame: &'a Frame<'a>,
     budget: u64,
     run: &mut Run,
     name: &str,
     steps: &[StepNode],
     below: usize,
 ) -> Result<Value, Fail>
+    requires frame { IsTrue (is_sound (length arena.now.exprs) frame.now) }
     requires stands { below ≤ length arena.now.exprs }
     requires steps { StepsBelow below steps.now }
-    ensures gives { Gives (λ v. v) result (scene_of run.new) (R.kept roots.new) (referred budget (R.meanings roots.old) name.now (steps_made (expr_of arena.now.exprs) steps.now) (scene_of run.old, R.kept roots.old)) }
+    ensures gives { Gives (λ v. v) result (scene_of run.new) (R.kept roots.new) (referred budget (R.meanings roots.old) (base_with (arguments_of arena.now.exprs frame.now) (named name.now)) (steps_with (arguments_of arena.now.exprs frame.now) (steps_made (expr_of arena.now.exprs) steps.now)) (scene_of run.old, R.kept roots.old)) }
     ensures same { R.meanings roots.new ≡ R.meanings roots.old }
 {
-    let begun = begin_reference(run, alloc, name)?;
-    let reached = walk(alloc, roots, arena, budget, run, begun, steps, below)?;
+    let begun = begin_in(alloc, roots, arena, frame, budget, run, name)?;
+    let reached = walk(alloc, roots, arena, frame, budget, run, begun, steps, below)?;
     end_reference(alloc, roots, run, reached)
 }
 
 // The steps of a reference, in order.
 #[cycle(eval)]
-fn walk<R: Roots>(
+fn walk<'a, R: Roots>(
     alloc: Global,
     roots: &mut R,
     arena: &Arena,
+    frame: &'a Frame<'a>,
     budget: u64,
     run: &mut Run,
     begun: Reached,
     steps: &[StepNode],
     below: usize,
 ) -> Result<Reached, Fail>
+    requires frame { IsTrue (is_sound (length arena.now.exprs) frame.now) }
     requires stands { below ≤ length arena.now.exprs }
     requires steps { StepsBelow below steps.now }
-    ensures gives { Gives reached_of result (scene_of run.new) (R.kept roots.new) (walked budget (R.meanings roots.old) (steps_made (expr_of arena.now.exprs) steps.now) (reached_of begun) (scene_of run.old, R.kept roots.old)) }
+    ensures gives { Gives reached_of result (scene_of run.new) (R.kept roots.new) (walked budget (R.meanings roots.old) (steps_with (arguments_of arena.now.exprs frame.now) (steps_made (expr_of arena.now.exprs) steps.now)) (reached_of begun) (scene_of run.old, R.kept roots.old)) }
     ensures same { R.meanings roots.new ≡ R.meanings roots.old }
 {
     let mut reached = begun;
     for step in steps {
-        reached = take_step(alloc, roots, arena, budget, run, reached, step, below)?;
+        reached = take_step(
+            alloc, roots, arena, frame, budget, run, reached, step, below,
+        )?;
     }
     Ok(reached)
 }
 
 // A step of a reference.
 #[cycle(eval)]
-fn take_step<R: Roots>(
+fn take_step<'a, R: Roots>(
     alloc: Global,
     roots: &mut R,
     arena: &Arena,
+    frame: &'a Frame<'a>,
     budget: u64,
     run: &mut Run,
     reached: Reached,
     step: &StepNode,
     below: usize,
 ) -> Result<Reached, Fail>
+    requires frame { IsTrue (is_sound (length arena.now.exprs) frame.now) }
     requires stands { below ≤ length arena.now.exprs }
     requires step { StepBelow below step.now }
-    ensures gives { Gives reached_of result (scene_of run.new) (R.kept roots.new) (stepped budget (R.meanings roots.old) (step_made (expr_of arena.now.exprs) step.now) (reached_of reached) (scene_of run.old, R.kept roots.old)) }
+    ensures gives { Gives reached_of result (scene_of run.new) (R.kept roots.new) (stepped budget (R.meanings roots.old) (step_with (arguments_of arena.now.exprs frame.now) (step_made (expr_of arena.now.exprs) step.now)) (reached_of reached) (scene_of run.old, R.kept roots.old)) }
     ensures same { R.meanings roots.new ≡ R.meanings roots.old }
 {
     match step {
         StepNode::Member(name) => after_name(alloc, roots, run, reached, name.as_str()),
         StepNode::Call(name, ids) => {
             let settled = settle(alloc, roots, run, reached)?;
-            let values = eval_all(alloc, roots, arena, budget, run, ids, below)?;
+            let values = eval_all(alloc, roots, arena, frame, budget, run, ids, below)?;
             after_call(alloc, roots, run, settled, name.as_str(), values)
         }
         StepNode::Index(k) => {
             let settled = settle(alloc, roots, run, reached)?;
-            let index = eval(alloc, roots, arena, budget, run, *k)?;
+            let index = eval(alloc, roots, arena, frame, budget, run, *k)?;
             after_index(alloc, roots, run, settled, index)
         }
     }

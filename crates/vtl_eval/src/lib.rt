@@ -26,7 +26,10 @@
 #![tactic(auto)]
 
 mod eval;
+mod frame;
+mod idle;
 mod items;
+pub mod laws;
 mod operators;
 mod pieces;
 mod reached;

@@ -1,14 +1,17 @@
 // A template over roots.
 ghost use Rattle.std.specs.Prelude.{◌≡◌, ◌≢◌, Ok, Err, IfOk, IfErr};
 ghost use Rattle.vtl_grammar.specs.Templates.{tree_of};
+ghost use Rattle.vtl_grammar.specs.Expanded.{expanded};
 ghost use Rattle.vtl_eval.specs.Meaning.{rendering, stop_of};
 ghost use Rattle.vtl_eval.specs.Views.{scene_of};
 
+use crate::frame::Frame;
+use crate::idle::{MOST_INSIDE, idle_rows};
 use crate::items::run_items;
 use crate::roots::Roots;
 use crate::run::{Run, begin_run};
 use crate::stop::{Fail, Limit, Rendered, Stop};
-use gw_base::Text;
+use gw_base::{Memory, Text};
 use std::alloc::Global;
 use vtl_reader::Template;
 
@@ -36,18 +39,27 @@ pub fn render<R: Roots>(
     budget: u64,
 ) -> Result<Rendered, Stop>
     // The text, its cost, and what is written; or the limit that is met first, and what is written before.
-    ensures made { IfOk result (λ r. rendering budget (R.meanings roots.old) (tree_of template.now) (R.kept roots.old) ≡ Ok (r, R.kept roots.new)) }
-    ensures stop { IfErr result (λ e. e ≢ Stop.Memory → rendering budget (R.meanings roots.old) (tree_of template.now) (R.kept roots.old) ≡ Err (e, R.kept roots.new)) }
+    ensures made { IfOk result (λ r. rendering budget (R.meanings roots.old) (expanded (tree_of template.now)) (R.kept roots.old) ≡ Ok (r, R.kept roots.new)) }
+    ensures stop { IfErr result (λ e. e ≢ Stop.Memory → rendering budget (R.meanings roots.old) (expanded (tree_of template.now)) (R.kept roots.old) ≡ Err (e, R.kept roots.new)) }
 
     // The roots mean what they meant.
     ensures meanings { R.meanings roots.new ≡ R.meanings roots.old }
 {
-    let (arena, items) = template.parts();
+    let (arena, macros, items) = template.parts_with_macros();
+    let idle = match idle_rows(alloc, arena, macros) {
+        Ok(rows) => rows,
+        Err(Memory) => return Err(Stop::Memory),
+    };
+    let frame = Frame::Top;
     let mut run = begin_run(alloc);
     match run_items(
         alloc,
         roots,
         arena,
+        macros,
+        &idle,
+        &frame,
+        MOST_INSIDE,
         budget,
         &mut run,
         items,

@@ -1,6 +1,8 @@
 -- tests
-use Rattle.std.proofs.Common.{◌≡◌, refl, [], ◌∷◌, Err}
-use Rattle.vtl_grammar.specs.declared.fault.TemplateFault.TheVariants.{Unclosed, BadDirective, BadExpression, UnsupportedMethod, Escape, TooDeep}
+use Rattle.std.proofs.Common.{◌≡◌, refl, [], ◌∷◌, Ok, Err}
+use Rattle.std.specs.Prelude.{pos}
+use Rattle.vtl_grammar.specs.Tree.{text, comment, define, macro_call, item, no_items, expr, no_exprs, whole}
+use Rattle.vtl_grammar.specs.declared.fault.TemplateFault.TheVariants.{Unclosed, BadDirective, BadExpression, UnsupportedMethod, Escape, TooDeep, ParamAssigned}
 use Rattle.vtl_grammar.specs.Templates.{read_of, limit}
 use Rattle.vtl_grammar.specs.Items.{blocks}
 use Rattle.vtl_grammar.specs.Expressions.{operand, ranked, links, inside}
@@ -332,3 +334,58 @@ t63 = refl
 t64 : read_of (36 ∷ 97 ∷ 46 ∷ 103 ∷ 101 ∷ 116 ∷ 40 ∷ 49 ∷ 32 ∷ 50 ∷ 41 ∷ []) ≡ Err (BadExpression 9)
 unfolding read_of limit gather blocks operand ranked links inside front_at text_run scan
 t64 = refl
+
+-- '#macro(m $p)$p#end#m()'
+t65 : read_of (35 ∷ 109 ∷ 97 ∷ 99 ∷ 114 ∷ 111 ∷ 40 ∷ 109 ∷ 32 ∷ 36 ∷ 112 ∷ 41 ∷ 36 ∷ 112 ∷ 35 ∷ 101 ∷ 110 ∷ 100 ∷ 35 ∷ 109 ∷ 40 ∷ 41 ∷ []) ≡ Err (BadDirective 18)
+unfolding read_of limit gather blocks operand ranked links inside front_at text_run scan
+t65 = refl
+
+-- '#macro(m)#end#m'
+t66 : read_of (35 ∷ 109 ∷ 97 ∷ 99 ∷ 114 ∷ 111 ∷ 40 ∷ 109 ∷ 41 ∷ 35 ∷ 101 ∷ 110 ∷ 100 ∷ 35 ∷ 109 ∷ []) ≡ Err (BadDirective 13)
+unfolding read_of limit gather blocks operand ranked links inside front_at text_run scan
+t66 = refl
+
+-- '#macro(m $p)#set($p=1)#end'
+t67 : read_of (35 ∷ 109 ∷ 97 ∷ 99 ∷ 114 ∷ 111 ∷ 40 ∷ 109 ∷ 32 ∷ 36 ∷ 112 ∷ 41 ∷ 35 ∷ 115 ∷ 101 ∷ 116 ∷ 40 ∷ 36 ∷ 112 ∷ 61 ∷ 49 ∷ 41 ∷ 35 ∷ 101 ∷ 110 ∷ 100 ∷ []) ≡ Err (ParamAssigned 18)
+unfolding read_of limit gather blocks operand ranked links inside front_at text_run scan
+t67 = refl
+
+-- '#macro(m)#end#m(1)$x.put()'
+t68 : read_of (35 ∷ 109 ∷ 97 ∷ 99 ∷ 114 ∷ 111 ∷ 40 ∷ 109 ∷ 41 ∷ 35 ∷ 101 ∷ 110 ∷ 100 ∷ 35 ∷ 109 ∷ 40 ∷ 49 ∷ 41 ∷ 36 ∷ 120 ∷ 46 ∷ 112 ∷ 117 ∷ 116 ∷ 40 ∷ 41 ∷ []) ≡ Err (UnsupportedMethod 21)
+unfolding read_of limit gather blocks operand ranked links inside front_at text_run scan
+t68 = refl
+
+-- '#m()#macro(m)'
+t69 : read_of (35 ∷ 109 ∷ 40 ∷ 41 ∷ 35 ∷ 109 ∷ 97 ∷ 99 ∷ 114 ∷ 111 ∷ 40 ∷ 109 ∷ 41 ∷ []) ≡ Err (Unclosed 4)
+unfolding read_of limit gather blocks operand ranked links inside front_at text_run scan
+t69 = refl
+
+-- '#if(1)#macro(m)#end#end'
+t70 : read_of (35 ∷ 105 ∷ 102 ∷ 40 ∷ 49 ∷ 41 ∷ 35 ∷ 109 ∷ 97 ∷ 99 ∷ 114 ∷ 111 ∷ 40 ∷ 109 ∷ 41 ∷ 35 ∷ 101 ∷ 110 ∷ 100 ∷ 35 ∷ 101 ∷ 110 ∷ 100 ∷ []) ≡ Err (BadDirective 6)
+unfolding read_of limit gather blocks operand ranked links inside front_at text_run scan
+t70 = refl
+
+-- '#macro(m)#end#macro(m)#end'
+t71 : read_of (35 ∷ 109 ∷ 97 ∷ 99 ∷ 114 ∷ 111 ∷ 40 ∷ 109 ∷ 41 ∷ 35 ∷ 101 ∷ 110 ∷ 100 ∷ 35 ∷ 109 ∷ 97 ∷ 99 ∷ 114 ∷ 111 ∷ 40 ∷ 109 ∷ 41 ∷ 35 ∷ 101 ∷ 110 ∷ 100 ∷ []) ≡ Err (BadDirective 13)
+unfolding read_of limit gather blocks operand ranked links inside front_at text_run scan
+t71 = refl
+
+-- '#set($a='#macro(q)')#q()'
+t72 : read_of (35 ∷ 115 ∷ 101 ∷ 116 ∷ 40 ∷ 36 ∷ 97 ∷ 61 ∷ 39 ∷ 35 ∷ 109 ∷ 97 ∷ 99 ∷ 114 ∷ 111 ∷ 40 ∷ 113 ∷ 41 ∷ 39 ∷ 41 ∷ 35 ∷ 113 ∷ 40 ∷ 41 ∷ []) ≡ Err (BadDirective 20)
+unfolding read_of limit gather blocks operand ranked links inside front_at text_run scan
+t72 = refl
+
+-- '#macro(m $p)#foreach($p in [1])#end#end'
+t73 : read_of (35 ∷ 109 ∷ 97 ∷ 99 ∷ 114 ∷ 111 ∷ 40 ∷ 109 ∷ 32 ∷ 36 ∷ 112 ∷ 41 ∷ 35 ∷ 102 ∷ 111 ∷ 114 ∷ 101 ∷ 97 ∷ 99 ∷ 104 ∷ 40 ∷ 36 ∷ 112 ∷ 32 ∷ 105 ∷ 110 ∷ 32 ∷ 91 ∷ 49 ∷ 93 ∷ 41 ∷ 35 ∷ 101 ∷ 110 ∷ 100 ∷ 35 ∷ 101 ∷ 110 ∷ 100 ∷ []) ≡ Err (ParamAssigned 22)
+unfolding read_of limit gather blocks operand ranked links inside front_at text_run scan
+t73 = refl
+
+-- '#*#macro(m)*##m()'
+t74 : read_of (35 ∷ 42 ∷ 35 ∷ 109 ∷ 97 ∷ 99 ∷ 114 ∷ 111 ∷ 40 ∷ 109 ∷ 41 ∷ 42 ∷ 35 ∷ 35 ∷ 109 ∷ 40 ∷ 41 ∷ []) ≡ Ok (item comment (item (text (35 ∷ 109 ∷ 40 ∷ 41 ∷ [])) no_items))
+unfolding read_of limit gather blocks operand ranked links inside front_at text_run scan
+t74 = refl
+
+-- '#m(1 2)#macro(m $p $q)#end'
+t75 : read_of (35 ∷ 109 ∷ 40 ∷ 49 ∷ 32 ∷ 50 ∷ 41 ∷ 35 ∷ 109 ∷ 97 ∷ 99 ∷ 114 ∷ 111 ∷ 40 ∷ 109 ∷ 32 ∷ 36 ∷ 112 ∷ 32 ∷ 36 ∷ 113 ∷ 41 ∷ 35 ∷ 101 ∷ 110 ∷ 100 ∷ []) ≡ Ok (item (macro_call 26 (109 ∷ []) (expr (whole (pos 1)) (expr (whole (pos 2)) no_exprs))) (item (define (109 ∷ []) ((112 ∷ []) ∷ (113 ∷ []) ∷ []) no_items) no_items))
+unfolding read_of limit gather blocks operand ranked links inside front_at text_run scan
+t75 = refl

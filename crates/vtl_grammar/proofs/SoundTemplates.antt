@@ -1,6 +1,6 @@
 -- A text that is read is a template.
 use Rattle.std.proofs.Common.{◌≡◌, ◌≤◌, ℕ, List, [], ◌∷◌, length, refl, subst, Bool, true, false}
-use Rattle.std.specs.Prelude.{nat_lt, Some, Result, Ok, Err}
+use Rattle.std.specs.Prelude.{nat_lt, Option, Some, None, Result, Ok, Err}
 use Rattle.std.proofs.lemmas.Bool.{ltb-false}
 use Rattle.vtl_grammar.specs.declared.fault.Fault.{Fault}
 use Rattle.vtl_grammar.specs.declared.fault.TemplateFault.{TemplateFault}
@@ -8,9 +8,10 @@ use Rattle.vtl_grammar.specs.declared.fault.TemplateFault.TheVariants as told
 use Rattle.vtl_grammar.specs.Tree.{Item, Items}
 use Rattle.vtl_grammar.specs.Faults.{◌>>=◌}
 use Rattle.vtl_grammar.specs.Lines.{Spot}
-use Rattle.vtl_grammar.specs.Macros.{macros_of, first_place}
+use Rattle.vtl_grammar.specs.Macros.{macro_names}
+use Rattle.vtl_grammar.specs.Calls.{macros_in, wrong_calls}
 use Rattle.vtl_grammar.specs.Items.{Where, at_top, in_branch, in_body, Around, Stop, Finish, items, below}
-use Rattle.vtl_grammar.specs.Templates.{limit, outermost, from_front, unless_macro, read_of}
+use Rattle.vtl_grammar.specs.Templates.{limit, outermost, from_front, unless_wrong, tested, read_all, read_of}
 use Rattle.vtl_grammar.specs.Grammar.{Run, run_end, run_item, Ending, ending_finish, ending_else, ending_elseif, ending_branch, ending_body, Reads, reads_output, reads_line_comment, reads_comment, reads_break, reads_stop, reads_set, reads_if, reads_foreach, reads_macro, reads_call, IsTemplate}
 use Rattle.vtl_grammar.proofs.Held.{Held, ok}
 use Rattle.vtl_grammar.proofs.SoundItems.{run_sound}
@@ -54,20 +55,20 @@ abbrev Templated : List ℕ → Result Items TemplateFault → Type 0
 Templated bs (Ok is) = IsTemplate bs is
 Templated bs (Err f) = Unit {0}
 
-finished : (bs : List ℕ) (p : Items × Stop) → Run [] 64 outermost (Some 0, bs) p.0 p.1 → Run [] 64 outermost (Some 0, bs) p.0 Finish
-finished bs p r = let P : Stop → Type 0 = λ z. Run [] 64 outermost (Some 0, bs) p.0 z in subst P (finishes [] r tt) r
+finished : (bs : List ℕ) (p : Items × Stop) → Run (macro_names bs) 64 outermost (Some 0, bs) p.0 p.1 → Run (macro_names bs) 64 outermost (Some 0, bs) p.0 Finish
+finished bs p r = let P : Stop → Type 0 = λ z. Run (macro_names bs) 64 outermost (Some 0, bs) p.0 z in subst P (finishes (macro_names bs) r tt) r
 
-whole_templated : (bs : List ℕ) (r : Result (Items × Stop) Fault) → length bs ≤ limit → macros_of bs ≡ [] → Held (λ p. Run [] 64 outermost (Some 0, bs) p.0 p.1) r → Templated bs (from_front (length bs) (r >>= λ p. Ok p.0))
-whole_templated bs (Ok p) l m (ok h) = record { small = l; no_macro = m; run = finished bs p h }
-whole_templated bs (Err f) l m h = tt
+calls_templated : (bs : List ℕ) (is : Items) (wrong : Option ℕ) → length bs ≤ limit → Run (macro_names bs) 64 outermost (Some 0, bs) is Finish → wrong_calls (macros_in is) is ≡ wrong → Templated bs (from_front (length bs) (unless_wrong is wrong))
+calls_templated bs is None l r e = record { small = l; run = r; calls = e }
+calls_templated bs is (Some at) l r e = tt
 
-macros_templated : (bs : List ℕ) (ms : List (ℕ × List ℕ)) → length bs ≤ limit → macros_of bs ≡ ms → Templated bs (unless_macro (first_place ms) bs)
-macros_templated bs [] l e = whole_templated bs (items (below [] 64) outermost (Some 0, bs)) l e (run_sound [] 64 outermost (Some 0, bs))
-macros_templated bs (m ∷ ms) l e = tt
+whole_templated : (bs : List ℕ) (r : Result (Items × Stop) Fault) → length bs ≤ limit → Held (λ p. Run (macro_names bs) 64 outermost (Some 0, bs) p.0 p.1) r → Templated bs (from_front (length bs) ((r >>= λ p. Ok p.0) >>= tested))
+whole_templated bs (Ok p) l (ok h) = calls_templated bs p.0 (wrong_calls (macros_in p.0) p.0) l (finished bs p h) refl
+whole_templated bs (Err f) l h = tt
 
-size_templated : (bs : List ℕ) (c : Bool) → nat_lt limit (length bs) ≡ c → Templated bs (elim c [ true ↦ Err told.TooLong | false ↦ unless_macro (first_place (macros_of bs)) bs ])
+size_templated : (bs : List ℕ) (c : Bool) → nat_lt limit (length bs) ≡ c → Templated bs (elim c [ true ↦ Err told.TooLong | false ↦ from_front (length bs) (read_all bs) ])
 size_templated bs true e = tt
-size_templated bs false e = macros_templated bs (macros_of bs) (ltb-false limit (length bs) e) refl
+size_templated bs false e = whole_templated bs (items (below (macro_names bs) 64) outermost (Some 0, bs)) (ltb-false limit (length bs) e) (run_sound (macro_names bs) 64 outermost (Some 0, bs))
 
 read_templated : (bs : List ℕ) → Templated bs (read_of bs)
 unfolding read_of

@@ -14,7 +14,8 @@ use Rattle.vtl_grammar.specs.Lines.{Spot, cut, lines}
 use Rattle.vtl_grammar.specs.Fronts.{Front, finish, line_comment, long_comment, directive, front_at, text_run}
 use Rattle.vtl_grammar.specs.Fronts as front
 use Rattle.vtl_grammar.specs.Directives.{a_close, a_comma, a_space, between_of, bracket, form, form_name, is_apart, target, loop_variable, macro_in}
-use Rattle.vtl_grammar.specs.Macros.{macros_of}
+use Rattle.vtl_grammar.specs.Macros.{macro_names}
+use Rattle.vtl_grammar.specs.Calls.{macros_in, wrong_calls}
 use Rattle.vtl_grammar.specs.Templates.{limit, outermost}
 use Rattle.vtl_grammar.specs.Items.{at_top, in_branch, in_body, Around, Stop, Finish, Else, ElseIf, End, with_items, text_item, branch_around, else_around, loop_around, macro_around, with_macro}
 
@@ -149,8 +150,8 @@ module _ (names : List (List ℕ)) where
       branched_else : {d : ℕ} {a : Around} {e : Expr} {s t u : Spot} {is os : Items} → Run d a s is (Else t) → Run d (else_around a) t os (End u) → Branched d a e s (branch e is (otherwise os)) u
       branched_more : {d : ℕ} {a : Around} {e f : Expr} {s t u : Spot} {is : Items} {bs : Branches} → Run d a s is (ElseIf f t) → Branched d a f t bs u → Branched d a e s (branch e is bs) u
 
--- The text is a template of this tree: it has at most 307,200 bytes, no macro is defined in it, and it is a run of these items, inside which 64 levels may open.
+-- The text is a template of this tree: it has at most 307,200 bytes, it is a run of these items, inside which 64 levels may open and whose macros' names are those that the scan finds, and each call is of a macro with as many parameters as it has arguments.
 pub record IsTemplate (bs : List ℕ) (is : Items) : Type 0 where
   pub small : length bs ≤ limit
-  pub no_macro : macros_of bs ≡ []
-  pub run : Run [] 64 outermost (Some 0, bs) is Finish
+  pub run : Run (macro_names bs) 64 outermost (Some 0, bs) is Finish
+  pub calls : wrong_calls (macros_in is) is ≡ None

@@ -17,6 +17,8 @@ pub mod Lines
 pub mod Fronts
 pub mod Directives
 pub mod Items
+pub mod Calls
+pub mod Expanded
 pub mod Templates
 pub mod Uses
 pub mod Grammar

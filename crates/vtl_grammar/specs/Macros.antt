@@ -1,4 +1,4 @@
--- The macros of a text, found before it is read, by a scan that passes over comments and raw text alone.
+-- The names of a text's macros, found before it is read, by a scan that passes over comments and raw text alone.
 use Rattle.std.specs.Prelude.{ℕ, zero, suc, ◌+◌, Bool, true, false, List, [], ◌∷◌, codes, length, Option, Some, None, ◌==◌}
 use Rattle.vtl_grammar.specs.Bytes.{white, blanks, taken, name_at, after, until_byte, until_word}
 
@@ -68,21 +68,17 @@ abbrev pub scan_at : List ℕ → Scanned
 scan_at [] = done
 scan_at (b ∷ bs) = elim (b == 35) [ true ↦ scan_hash (hash_at bs) | false ↦ passed bs ]
 
--- the further macros, with one whose `#` stands so many bytes before the end
-abbrev pub scan_on : (List ℕ → List (ℕ × List ℕ)) → ℕ → Scanned → List (ℕ × List ℕ)
-scan_on next at done = []
-scan_on next at (passed bs) = next bs
-scan_on next at (found x bs) = (at, x) ∷ next bs
+-- the further names, with one that is found
+abbrev pub scan_on : (List ℕ → List (List ℕ)) → Scanned → List (List ℕ)
+scan_on next done = []
+scan_on next (passed bs) = next bs
+scan_on next (found x bs) = x ∷ next bs
 
 -- at most n steps
-unfoldable pub scan : ℕ → List ℕ → List (ℕ × List ℕ)
+unfoldable pub scan : ℕ → List ℕ → List (List ℕ)
 scan zero bs = []
-scan (suc n) bs = scan_on (scan n) (length bs) (scan_at bs)
+scan (suc n) bs = scan_on (scan n) (scan_at bs)
 
--- the place of each `#macro` whose name the scan finds, and the name
-abbrev pub macros_of : List ℕ → List (ℕ × List ℕ)
-macros_of bs = scan (length bs + 1) bs
-
-abbrev pub first_place : List (ℕ × List ℕ) → Option ℕ
-first_place [] = None
-first_place (m ∷ ms) = Some m.0
+-- the names of the macros that the scan finds
+abbrev pub macro_names : List ℕ → List (List ℕ)
+macro_names bs = scan (length bs + 1) bs

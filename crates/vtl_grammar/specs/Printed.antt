@@ -2,7 +2,7 @@
 use Rattle.std.specs.Prelude.{ℕ, List, ◌++◌, codes}
 use Rattle.std.specs.Fmt.{decimal}
 use Rattle.vtl_grammar.specs.declared.fault.TemplateFault.{TemplateFault}
-use Rattle.vtl_grammar.specs.declared.fault.TemplateFault.TheVariants.{TooLong, NotBuilt, Unclosed, BadDirective, BadExpression, UnsupportedMethod, Escape, ParamAssigned, TooDeep, Memory}
+use Rattle.vtl_grammar.specs.declared.fault.TemplateFault.TheVariants.{TooLong, Unclosed, BadDirective, BadExpression, UnsupportedMethod, Escape, ParamAssigned, TooDeep, Memory}
 
 -- the place in brackets, in decimal digits
 abbrev pub place : ℕ → List ℕ
@@ -11,7 +11,6 @@ place at = codes "(" ++ decimal at ++ codes ")"
 -- a fault's name, with its place
 abbrev pub printed : TemplateFault → List ℕ
 printed TooLong = codes "TooLong"
-printed (NotBuilt at) = codes "NotBuilt" ++ place at
 printed (Unclosed at) = codes "Unclosed" ++ place at
 printed (BadDirective at) = codes "BadDirective" ++ place at
 printed (BadExpression at) = codes "BadExpression" ++ place at

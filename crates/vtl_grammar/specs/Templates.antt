@@ -6,7 +6,8 @@ use Rattle.vtl_grammar.specs.declared.fault.TemplateFault.{TemplateFault}
 use Rattle.vtl_grammar.specs.declared.fault.TemplateFault.TheVariants as fault
 use Rattle.vtl_grammar.specs.Tree.{Items, no_items}
 use Rattle.vtl_grammar.specs.Faults.{◌>>=◌}
-use Rattle.vtl_grammar.specs.Macros.{macros_of, first_place}
+use Rattle.vtl_grammar.specs.Macros.{macro_names}
+use Rattle.vtl_grammar.specs.Calls.{macros_in, wrong_calls}
 use Rattle.vtl_grammar.specs.Items.{Around, at_top, items, below}
 
 -- the whole text, before anything of it is read
@@ -31,10 +32,17 @@ abbrev pub from_front : {A : Type 0} → ℕ → Result A Fault → Result A Tem
 from_front n (Ok x) = Ok x
 from_front n (Err f) = Err (placed n f)
 
--- a text without macros is read; else the first macro is told
-abbrev pub unless_macro : Option ℕ → List ℕ → Result Items TemplateFault
-unless_macro (Some left) bs = Err (fault.NotBuilt (length bs - left))
-unless_macro None bs = from_front (length bs) (whole [] 64 bs)
+-- a tree whose calls are right; else the place of the first that is wrong
+abbrev pub unless_wrong : Items → Option ℕ → Result Items Fault
+unless_wrong is None = Ok is
+unless_wrong is (Some left) = Err (met.BadDirective left)
+
+-- the calls are tested behind all else
+abbrev pub tested : Items → Result Items Fault
+tested is = unless_wrong is (wrong_calls (macros_in is) is)
+
+abbrev pub read_all : List ℕ → Result Items Fault
+read_all bs = whole (macro_names bs) 64 bs >>= tested
 
 -- the most bytes of a template
 unfoldable pub limit : ℕ
@@ -42,7 +50,7 @@ limit = 307200
 
 -- the tree of a text, or its first fault
 unfoldable pub read_of : List ℕ → Result Items TemplateFault
-read_of bs = elim (nat_lt limit (length bs)) [ true ↦ Err fault.TooLong | false ↦ unless_macro (first_place (macros_of bs)) bs ]
+read_of bs = elim (nat_lt limit (length bs)) [ true ↦ Err fault.TooLong | false ↦ from_front (length bs) (read_all bs) ]
 
 abbrev pub items_or_none : Result Items TemplateFault → Items
 items_or_none (Ok is) = is

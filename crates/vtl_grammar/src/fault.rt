@@ -27,12 +27,11 @@ pub enum Fault {
 pub enum TemplateFault {
     /// The text has more than 307,200 bytes. It is told before all else.
     TooLong,
-    /// Here stands the `#` of the first `#macro`: macros are not built.
-    NotBuilt(usize),
     /// Here begins the outermost construct that is not closed at the end: a directive with a block, a bracket, a
     /// string, a comment, raw text, or a reference in braces.
     Unclosed(usize),
-    /// Here stands the `#` of a directive that cannot stand there, or that has a wrong form.
+    /// Here stands the `#` of a directive that cannot stand there, or that has a wrong form; or, where the text has no
+    /// other fault, that of the first call of a macro that is not defined or takes another number of arguments.
     BadDirective(usize),
     /// Here stands the first byte with which an expression or a reference does not go on, or a number that is no
     /// 64-bit whole number.
@@ -59,7 +58,6 @@ impl fmt::Display for TemplateFault {
     fn fmt<W: fmt::Write>(&self, f: &mut fmt::Formatter<W>) -> fmt::Result {
         match self {
             TemplateFault::TooLong => f.write_str("TooLong"),
-            TemplateFault::NotBuilt(at) => write!(f, "NotBuilt({at})"),
             TemplateFault::Unclosed(at) => write!(f, "Unclosed({at})"),
             TemplateFault::BadDirective(at) => write!(f, "BadDirective({at})"),
             TemplateFault::BadExpression(at) => write!(f, "BadExpression({at})"),

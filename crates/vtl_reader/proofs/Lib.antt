@@ -6,3 +6,4 @@ pub mod Ranks
 pub mod Running
 pub mod Simple
 pub mod Trees
+pub mod Listing

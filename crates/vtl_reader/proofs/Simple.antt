@@ -29,6 +29,7 @@ simple_made e f (i.ForEach x k is) = refl
 simple_made e f i.Break = refl
 simple_made e f i.Stop = refl
 simple_made e f (i.Define x ps is) = refl
+simple_made e f (i.MacroCall at x ids) = refl
 
 body_made : (e : ℕ → Expr) (x : List ℕ) (ss : List Step) → tree_body (named x) (steps_made e ss) ≡ is_body x ss
 body_made e x [] = refl
@@ -47,6 +48,7 @@ plain_made e f (i.ForEach x k is) = refl
 plain_made e f i.Break = refl
 plain_made e f i.Stop = refl
 plain_made e f (i.Define x ps is) = refl
+plain_made e f (i.MacroCall at x ids) = refl
 
 module _ (f : ℕ → Item) where
   next_simple : (ids : List ℕ) (n d : ℕ) → n < length ids → is_simple (items_made f (drop n ids)) ≡ (is_simple_item (f (get_or ids n d)) && is_simple (items_made f (drop (suc n) ids)))

@@ -108,6 +108,7 @@ item_more m n k (items.ForEach x j is) le h = (omega (arith, le, h.0), h.1)
 item_more m n k items.Break le h = tt
 item_more m n k items.Stop le h = tt
 item_more m n k (items.Define x ps is) le h = h
+item_more m n k (items.MacroCall at x ids) le h = ids_more m n ids.items le h
 
 -- trees that agree on what stands before n
 
@@ -171,7 +172,8 @@ module _ (e d : ℕ → Expr) (n : ℕ) (same : (k : ℕ) → k < n → e k ≡ 
   item_alike (items.ForEach x j is) h = ap (λ z. tree.foreach x z (items_made f is.items)) (same j h.0) ∙ ap (tree.foreach x (d j)) (items_alike is.items h.1)
   item_alike items.Break h = refl
   item_alike items.Stop h = refl
-  item_alike (items.Define x ps is) h = ap (tree.define x ps.items) (items_alike is.items h)
+  item_alike (items.Define x ps is) h = ap (tree.define x ps) (items_alike is.items h)
+  item_alike (items.MacroCall at x ids) h = ap (tree.macro_call at x) (exprs_alike e d n same ids.items h)
 
 -- arenas
 

@@ -141,7 +141,8 @@ item_made e f (i.If bs is) = tree.choose (branches_made e f bs.items (items_made
 item_made e f (i.ForEach x k is) = tree.foreach x (e k) (items_made f is.items)
 item_made e f i.Break = tree.break_
 item_made e f i.Stop = tree.stop
-item_made e f (i.Define x ps is) = tree.define x ps.items (items_made f is.items)
+item_made e f (i.Define x ps is) = tree.define x ps (items_made f is.items)
+item_made e f (i.MacroCall at x ids) = tree.macro_call at x (exprs_made e ids.items)
 
 -- the expressions of an item stand before n, and its items before k
 abbrev pub BranchBelow : ℕ → ℕ → Branch → Type 0
@@ -160,6 +161,7 @@ ItemIsBelow n k (i.ForEach x j is) = (j < n) × AllBelow k is.items
 ItemIsBelow n k i.Break = Unit {0}
 ItemIsBelow n k i.Stop = Unit {0}
 ItemIsBelow n k (i.Define x ps is) = AllBelow k is.items
+ItemIsBelow n k (i.MacroCall at x ids) = AllBelow n ids.items
 
 abbrev pub item_there : (ℕ → Expr) → (ℕ → Item) → Option ItemNode → Item
 item_there e f None = tree.comment

@@ -6,12 +6,16 @@ use Rattle.vtl_reader.specs.declared.nodes.ItemNode.{ItemNode}
 use Rattle.vtl_reader.specs.declared.nodes.ItemNode.TheVariants as i
 use Rattle.vtl_reader.specs.declared.nodes.Step.{Step}
 use Rattle.vtl_reader.specs.declared.nodes.Step.TheVariants as steps
+use Rattle.vtl_grammar.specs.Calls.{macros_in}
 use Rattle.vtl_reader.specs.Nodes.{Nodes, item_of, items_made, AllBelow}
+use Rattle.vtl_reader.specs.Macros.{Listed, macros_by}
 
--- the items with these numbers are what is read of the text
-pub record IsRead (text : List ℕ) (ns : Nodes) (ids : List ℕ) : Type 0 where
+-- the items with these numbers are what is read of the text, and its macros are listed
+pub record IsRead (text : List ℕ) (ns : Nodes) (listed : Listed) (ids : List ℕ) : Type 0 where
   pub read : read_of text ≡ Ok (items_made (item_of ns) ids)
   pub below : AllBelow (length ns.items) ids
+  pub macros : (x : List ℕ) → macros_by ns listed x ≡ macros_in (items_made (item_of ns) ids) x
+  pub defined : AllBelow (length ns.items) listed.ids
 
 abbrev pub is_member : Step → Bool
 is_member (steps.Member x) = true
@@ -32,6 +36,7 @@ is_simple_node (i.ForEach x k is) = false
 is_simple_node i.Break = false
 is_simple_node i.Stop = false
 is_simple_node (i.Define x ps is) = false
+is_simple_node (i.MacroCall at x ids) = false
 
 abbrev pub is_body_step : List Step → Bool
 is_body_step [] = false
@@ -54,3 +59,4 @@ is_plain_node (i.ForEach x k is) = false
 is_plain_node i.Break = false
 is_plain_node i.Stop = false
 is_plain_node (i.Define x ps is) = false
+is_plain_node (i.MacroCall at x ids) = false

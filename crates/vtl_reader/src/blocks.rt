@@ -1,6 +1,6 @@
 // What stands around items, and what ends them.
 use crate::nodes::Branch;
-use gw_base::Text;
+use vtl_words::names::Names;
 
 /// What a run of items is the inside of.
 #[derive(Clone, Copy, Debug, PartialEq, Eq)]
@@ -19,7 +19,7 @@ pub enum Place {
 pub struct Around<'p> {
     pub place: Place,
     pub looping: bool,
-    pub params: &'p [Text],
+    pub params: &'p Names,
 }
 
 /// What ends a run of items, with the line and the bytes behind it.

@@ -25,6 +25,7 @@ use vtl_words::bytes::{bad, expect, taken, until_byte, white, whole_word};
 use vtl_words::fronts::{Piece, piece_at, run_len};
 use vtl_words::leads::{Lead, lead_of};
 use vtl_words::methods::arity;
+use vtl_words::names::Names;
 use vtl_words::numbers::{bad_not, boolean, minus_number, number};
 use vtl_words::operators::{Found, How, next_operator, rank};
 use vtl_words::references::{
@@ -118,30 +119,32 @@ pub fn source_of(alloc: Global, quiet: bool, all: &[u8], rest: &[u8]) -> Result<
 #[tactic(auto, using(crate::proofs::Ranks::ranked_none, crate::proofs::Ranks::ranked_some, crate::proofs::Trees::keeps_trans))]
 pub fn read_rank<'a>(
     alloc: Global,
+    names: &Names,
     arena: &mut Arena,
     level: u32,
     order: u32,
     how: How,
     bs: &'a [u8],
 ) -> Result<(usize, &'a [u8]), ReadError>
-    ensures gives { Gives (λ p. (expr_of arena.new.exprs p.0, p.1.now)) result (ranked (operand [] (inside [] level)) order (how_of how) bs.now) }
+    ensures gives { Gives (λ p. (expr_of arena.new.exprs p.0, p.1.now)) result (ranked (operand names.now (inside names.now level)) order (how_of how) bs.now) }
     ensures kept { OnOk result (Keeps arena.old arena.new) }
     ensures stands { IfOk result (λ p. p.0 < length arena.new.exprs) }
 {
     if order == 0 {
-        return read_operand(alloc, arena, level, how, bs);
+        return read_operand(alloc, names, arena, level, how, bs);
     }
-    let (first, rest) = match read_rank(alloc, arena, level, order - 1, how, bs) {
+    let (first, rest) = match read_rank(alloc, names, arena, level, order - 1, how, bs) {
         Ok(p) => p,
         Err(e) => return Err(e),
     };
-    read_links(alloc, arena, level, order, how, first, rest)
+    read_links(alloc, names, arena, level, order, how, first, rest)
 }
 
 // The operators of this rank that follow the first operand, each with its own.
 #[cycle(exprs)]
 fn read_links<'a>(
     alloc: Global,
+    names: &Names,
     arena: &mut Arena,
     level: u32,
     order: u32,
@@ -151,7 +154,7 @@ fn read_links<'a>(
 ) -> Result<(usize, &'a [u8]), ReadError>
     requires stands { first < length arena.old.exprs }
     requires order { 0 < order }
-    ensures gives { Gives (λ p. (expr_of arena.new.exprs p.0, p.1.now)) result (links (ranked (operand [] (inside [] level)) (order - 1) (how_of how)) (how_of how) order (length bs.now + 1) (expr_of arena.old.exprs first) bs.now) }
+    ensures gives { Gives (λ p. (expr_of arena.new.exprs p.0, p.1.now)) result (links (ranked (operand names.now (inside names.now level)) (order - 1) (how_of how)) (how_of how) order (length bs.now + 1) (expr_of arena.old.exprs first) bs.now) }
     ensures kept { OnOk result (Keeps arena.old arena.new) }
     ensures stands { IfOk result (λ p. p.0 < length arena.new.exprs) }
 {
@@ -171,7 +174,7 @@ fn read_links<'a>(
         if rank(operator) != order {
             return join(arena, first, further, rest);
         }
-        let (operand, behind) = match read_rank(alloc, arena, level, order - 1, how, more) {
+        let (operand, behind) = match read_rank(alloc, names, arena, level, order - 1, how, more) {
             Ok(p) => p,
             Err(e) => return Err(e),
         };
@@ -186,20 +189,21 @@ fn read_links<'a>(
 #[tactic(auto, using(crate::proofs::Ranks::inside_none, crate::proofs::Ranks::inside_some, crate::proofs::Ranks::ranked_none, crate::proofs::Trees::keeps_trans))]
 fn read_negation<'a>(
     alloc: Global,
+    names: &Names,
     arena: &mut Arena,
     level: u32,
     how: How,
     at: usize,
     bs: &'a [u8],
 ) -> Result<(usize, &'a [u8]), ReadError>
-    ensures gives { Gives (λ p. (expr_of arena.new.exprs p.0, p.1.now)) result (negation_of (inside [] level) (how_of how) at bs.now) }
+    ensures gives { Gives (λ p. (expr_of arena.new.exprs p.0, p.1.now)) result (negation_of (inside names.now level) (how_of how) at bs.now) }
     ensures kept { OnOk result (Keeps arena.old arena.new) }
     ensures stands { IfOk result (λ p. p.0 < length arena.new.exprs) }
 {
     if level == 0 {
         return Err(ReadError::Met(Fault::TooDeep(at)));
     }
-    let (k, rest) = match read_rank(alloc, arena, level - 1, 0, how, bs) {
+    let (k, rest) = match read_rank(alloc, names, arena, level - 1, 0, how, bs) {
         Ok(p) => p,
         Err(e) => return Err(e),
     };
@@ -212,11 +216,12 @@ fn read_negation<'a>(
 #[tactic(auto, using(crate::proofs::Ranks::inside_none, crate::proofs::Ranks::inside_some))]
 fn read_round<'a>(
     alloc: Global,
+    names: &Names,
     arena: &mut Arena,
     level: u32,
     bs: &'a [u8],
 ) -> Result<(usize, &'a [u8]), ReadError>
-    ensures gives { Gives (λ p. (expr_of arena.new.exprs p.0, p.1.now)) result (round_in (inside [] level) bs.now) }
+    ensures gives { Gives (λ p. (expr_of arena.new.exprs p.0, p.1.now)) result (round_in (inside names.now level) bs.now) }
     ensures kept { OnOk result (Keeps arena.old arena.new) }
     ensures stands { IfOk result (λ p. p.0 < length arena.new.exprs) }
 {
@@ -224,7 +229,7 @@ fn read_round<'a>(
     if level == 0 {
         return Err(ReadError::Met(Fault::TooDeep(at)));
     }
-    let (k, rest) = match read_rank(alloc, arena, level - 1, 6, How::Alone, bs) {
+    let (k, rest) = match read_rank(alloc, names, arena, level - 1, 6, How::Alone, bs) {
         Ok(p) => p,
         Err(e) => return Err(closed_at(at, e)),
     };
@@ -239,11 +244,12 @@ fn read_round<'a>(
 #[tactic(auto, using(crate::proofs::Ranks::inside_none, crate::proofs::Ranks::inside_some))]
 fn read_square<'a>(
     alloc: Global,
+    names: &Names,
     arena: &mut Arena,
     level: u32,
     bs: &'a [u8],
 ) -> Result<(usize, &'a [u8]), ReadError>
-    ensures gives { Gives (λ p. (expr_of arena.new.exprs p.0, p.1.now)) result (square_in (inside [] level) bs.now) }
+    ensures gives { Gives (λ p. (expr_of arena.new.exprs p.0, p.1.now)) result (square_in (inside names.now level) bs.now) }
     ensures kept { OnOk result (Keeps arena.old arena.new) }
     ensures stands { IfOk result (λ p. p.0 < length arena.new.exprs) }
 {
@@ -251,7 +257,7 @@ fn read_square<'a>(
     if level == 0 {
         return Err(ReadError::Met(Fault::TooDeep(at)));
     }
-    match read_list(alloc, arena, level - 1, white(bs)) {
+    match read_list(alloc, names, arena, level - 1, white(bs)) {
         Ok(p) => Ok(p),
         Err(e) => Err(closed_at(at, e)),
     }
@@ -262,11 +268,12 @@ fn read_square<'a>(
 #[tactic(auto, using(crate::proofs::Trees::keeps_trans))]
 fn read_list<'a>(
     alloc: Global,
+    names: &Names,
     arena: &mut Arena,
     inner: u32,
     bs: &'a [u8],
 ) -> Result<(usize, &'a [u8]), ReadError>
-    ensures gives { Gives (λ p. (expr_of arena.new.exprs p.0, p.1.now)) result (list_in (reader_of [] (inside [] inner)) (taken_of 93 bs.now)) }
+    ensures gives { Gives (λ p. (expr_of arena.new.exprs p.0, p.1.now)) result (list_in (reader_of names.now (inside names.now inner)) (taken_of 93 bs.now)) }
     ensures kept { OnOk result (Keeps arena.old arena.new) }
     ensures stands { IfOk result (λ p. p.0 < length arena.new.exprs) }
 {
@@ -274,11 +281,11 @@ fn read_list<'a>(
     if is_empty {
         return close_list(arena, Vec::new(alloc), rest);
     }
-    let (first, rest) = match read_rank(alloc, arena, inner, 6, How::Ranging, rest) {
+    let (first, rest) = match read_rank(alloc, names, arena, inner, 6, How::Ranging, rest) {
         Ok(p) => p,
         Err(e) => return Err(e),
     };
-    read_behind_first(alloc, arena, inner, first, white(rest))
+    read_behind_first(alloc, names, arena, inner, first, white(rest))
 }
 
 // Behind the first element of a list or range.
@@ -286,21 +293,22 @@ fn read_list<'a>(
 #[tactic(auto, using(crate::proofs::Trees::keeps_trans))]
 fn read_behind_first<'a>(
     alloc: Global,
+    names: &Names,
     arena: &mut Arena,
     inner: u32,
     first: usize,
     bs: &'a [u8],
 ) -> Result<(usize, &'a [u8]), ReadError>
     requires stands { first < length arena.old.exprs }
-    ensures gives { Gives (λ p. (expr_of arena.new.exprs p.0, p.1.now)) result (list_on (reader_of [] (inside [] inner)) (expr_of arena.old.exprs first) (taken_of 46 bs.now)) }
+    ensures gives { Gives (λ p. (expr_of arena.new.exprs p.0, p.1.now)) result (list_on (reader_of names.now (inside names.now inner)) (expr_of arena.old.exprs first) (taken_of 46 bs.now)) }
     ensures kept { OnOk result (Keeps arena.old arena.new) }
     ensures stands { IfOk result (λ p. p.0 < length arena.new.exprs) }
 {
     let (is_range, rest) = taken(b'.', bs);
     if is_range {
-        return read_range(alloc, arena, inner, first, rest);
+        return read_range(alloc, names, arena, inner, first, rest);
     }
-    let (ids, rest) = match read_elements(alloc, arena, inner, first, rest) {
+    let (ids, rest) = match read_elements(alloc, names, arena, inner, first, rest) {
         Ok(p) => p,
         Err(e) => return Err(e),
     };
@@ -312,13 +320,14 @@ fn read_behind_first<'a>(
 #[tactic(auto, using(crate::proofs::Trees::keeps_trans))]
 fn read_range<'a>(
     alloc: Global,
+    names: &Names,
     arena: &mut Arena,
     inner: u32,
     first: usize,
     bs: &'a [u8],
 ) -> Result<(usize, &'a [u8]), ReadError>
     requires stands { first < length arena.old.exprs }
-    ensures gives { Gives (λ p. (expr_of arena.new.exprs p.0, p.1.now)) result (range_from (reader_of [] (inside [] inner)) (expr_of arena.old.exprs first) bs.now) }
+    ensures gives { Gives (λ p. (expr_of arena.new.exprs p.0, p.1.now)) result (range_from (reader_of names.now (inside names.now inner)) (expr_of arena.old.exprs first) bs.now) }
     ensures kept { OnOk result (Keeps arena.old arena.new) }
     ensures stands { IfOk result (λ p. p.0 < length arena.new.exprs) }
 {
@@ -326,7 +335,7 @@ fn read_range<'a>(
         Ok(rest) => rest,
         Err(fault) => return Err(ReadError::Met(fault)),
     };
-    let (last, rest) = match read_rank(alloc, arena, inner, 6, How::Alone, rest) {
+    let (last, rest) = match read_rank(alloc, names, arena, inner, 6, How::Alone, rest) {
         Ok(p) => p,
         Err(e) => return Err(e),
     };
@@ -343,17 +352,18 @@ fn read_range<'a>(
 #[tactic(auto, using(crate::proofs::Trees::keeps_all))]
 fn read_element<'a>(
     alloc: Global,
+    names: &Names,
     arena: &mut Arena,
     inner: u32,
     bs: &'a [u8],
 ) -> Result<(Option<usize>, &'a [u8]), ReadError>
-    ensures gives { Gives (λ p. turn_of no_exprs (option_map (expr_of arena.new.exprs) p.0) p.1.now) result (element_turn (reader_of [] (inside [] inner)) bs.now) }
+    ensures gives { Gives (λ p. turn_of no_exprs (option_map (expr_of arena.new.exprs) p.0) p.1.now) result (element_turn (reader_of names.now (inside names.now inner)) bs.now) }
     ensures kept { OnOk result (Keeps arena.old arena.new) }
     ensures stands { IfOk result (λ p. IfSome p.0 (λ k. k < length arena.new.exprs)) }
 {
     match bs {
         [b']', rest @ ..] => Ok((None, rest)),
-        [b',', more @ ..] => match read_rank(alloc, arena, inner, 6, How::Alone, more) {
+        [b',', more @ ..] => match read_rank(alloc, names, arena, inner, 6, How::Alone, more) {
             Ok((k, rest)) => Ok((Some(k), white(rest))),
             Err(e) => Err(e),
         },
@@ -365,13 +375,14 @@ fn read_element<'a>(
 #[cycle(exprs)]
 fn read_elements<'a>(
     alloc: Global,
+    names: &Names,
     arena: &mut Arena,
     inner: u32,
     first: usize,
     bs: &'a [u8],
 ) -> Result<(Vec<usize>, &'a [u8]), ReadError>
     requires stands { first < length arena.old.exprs }
-    ensures gives { Gives (λ p. (exprs_made (expr_of arena.new.exprs) p.0.items, p.1.now)) result (elements (reader_of [] (inside [] inner)) (expr_of arena.old.exprs first) bs.now) }
+    ensures gives { Gives (λ p. (exprs_made (expr_of arena.new.exprs) p.0.items, p.1.now)) result (elements (reader_of names.now (inside names.now inner)) (expr_of arena.old.exprs first) bs.now) }
     ensures kept { OnOk result (Keeps arena.old arena.new) }
     ensures below { IfOk result (λ p. AllBelow (length arena.new.exprs) p.0.items) }
 {
@@ -381,7 +392,7 @@ fn read_elements<'a>(
     let mut fuel = bs.len() + 1;
     while fuel > 0 {
         fuel -= 1;
-        let (next, behind) = match read_element(alloc, arena, inner, rest) {
+        let (next, behind) = match read_element(alloc, names, arena, inner, rest) {
             Ok(p) => p,
             Err(e) => return Err(e),
         };
@@ -401,11 +412,12 @@ fn read_elements<'a>(
 #[tactic(auto, using(crate::proofs::Ranks::inside_none, crate::proofs::Ranks::inside_some))]
 fn read_brace<'a>(
     alloc: Global,
+    names: &Names,
     arena: &mut Arena,
     level: u32,
     bs: &'a [u8],
 ) -> Result<(usize, &'a [u8]), ReadError>
-    ensures gives { Gives (λ p. (expr_of arena.new.exprs p.0, p.1.now)) result (brace_in (inside [] level) bs.now) }
+    ensures gives { Gives (λ p. (expr_of arena.new.exprs p.0, p.1.now)) result (brace_in (inside names.now level) bs.now) }
     ensures kept { OnOk result (Keeps arena.old arena.new) }
     ensures stands { IfOk result (λ p. p.0 < length arena.new.exprs) }
 {
@@ -413,7 +425,7 @@ fn read_brace<'a>(
     if level == 0 {
         return Err(ReadError::Met(Fault::TooDeep(at)));
     }
-    match read_map(alloc, arena, level - 1, white(bs)) {
+    match read_map(alloc, names, arena, level - 1, white(bs)) {
         Ok(p) => Ok(p),
         Err(e) => Err(closed_at(at, e)),
     }
@@ -424,11 +436,12 @@ fn read_brace<'a>(
 #[tactic(auto, using(crate::proofs::Trees::keeps_trans))]
 fn read_map<'a>(
     alloc: Global,
+    names: &Names,
     arena: &mut Arena,
     inner: u32,
     bs: &'a [u8],
 ) -> Result<(usize, &'a [u8]), ReadError>
-    ensures gives { Gives (λ p. (expr_of arena.new.exprs p.0, p.1.now)) result (map_in (reader_of [] (inside [] inner)) (taken_of 125 bs.now)) }
+    ensures gives { Gives (λ p. (expr_of arena.new.exprs p.0, p.1.now)) result (map_in (reader_of names.now (inside names.now inner)) (taken_of 125 bs.now)) }
     ensures kept { OnOk result (Keeps arena.old arena.new) }
     ensures stands { IfOk result (λ p. p.0 < length arena.new.exprs) }
 {
@@ -436,11 +449,11 @@ fn read_map<'a>(
     if is_empty {
         return close_map(arena, Vec::new(alloc), rest);
     }
-    let (first, rest) = match read_pair(alloc, arena, inner, rest) {
+    let (first, rest) = match read_pair(alloc, names, arena, inner, rest) {
         Ok(p) => p,
         Err(e) => return Err(e),
     };
-    let (pairs, rest) = match read_pairs(alloc, arena, inner, first, rest) {
+    let (pairs, rest) = match read_pairs(alloc, names, arena, inner, first, rest) {
         Ok(p) => p,
         Err(e) => return Err(e),
     };
@@ -452,15 +465,16 @@ fn read_map<'a>(
 #[tactic(auto, using(crate::proofs::Trees::keeps_trans))]
 fn read_pair<'a>(
     alloc: Global,
+    names: &Names,
     arena: &mut Arena,
     inner: u32,
     bs: &'a [u8],
 ) -> Result<(Pair, &'a [u8]), ReadError>
-    ensures gives { Gives (λ p. (pair_made (expr_of arena.new.exprs) p.0, p.1.now)) result (pair_at (reader_of [] (inside [] inner)) bs.now) }
+    ensures gives { Gives (λ p. (pair_made (expr_of arena.new.exprs) p.0, p.1.now)) result (pair_at (reader_of names.now (inside names.now inner)) bs.now) }
     ensures kept { OnOk result (Keeps arena.old arena.new) }
     ensures stands { IfOk result (λ p. PairBelow (length arena.new.exprs) p.0) }
 {
-    let (key, rest) = match read_rank(alloc, arena, inner, 6, How::Alone, bs) {
+    let (key, rest) = match read_rank(alloc, names, arena, inner, 6, How::Alone, bs) {
         Ok(p) => p,
         Err(e) => return Err(e),
     };
@@ -468,7 +482,7 @@ fn read_pair<'a>(
         Ok(rest) => rest,
         Err(fault) => return Err(ReadError::Met(fault)),
     };
-    let (value, rest) = match read_rank(alloc, arena, inner, 6, How::Alone, rest) {
+    let (value, rest) = match read_rank(alloc, names, arena, inner, 6, How::Alone, rest) {
         Ok(p) => p,
         Err(e) => return Err(e),
     };
@@ -480,17 +494,18 @@ fn read_pair<'a>(
 #[tactic(auto, using(crate::proofs::Trees::keeps_all))]
 fn read_next_pair<'a>(
     alloc: Global,
+    names: &Names,
     arena: &mut Arena,
     inner: u32,
     bs: &'a [u8],
 ) -> Result<(Option<Pair>, &'a [u8]), ReadError>
-    ensures gives { Gives (λ p. turn_of no_pairs (option_map (pair_made (expr_of arena.new.exprs)) p.0) p.1.now) result (pair_turn (reader_of [] (inside [] inner)) bs.now) }
+    ensures gives { Gives (λ p. turn_of no_pairs (option_map (pair_made (expr_of arena.new.exprs)) p.0) p.1.now) result (pair_turn (reader_of names.now (inside names.now inner)) bs.now) }
     ensures kept { OnOk result (Keeps arena.old arena.new) }
     ensures stands { IfOk result (λ p. IfSome p.0 (PairBelow (length arena.new.exprs))) }
 {
     match bs {
         [b'}', rest @ ..] => Ok((None, rest)),
-        [b',', more @ ..] => match read_pair(alloc, arena, inner, more) {
+        [b',', more @ ..] => match read_pair(alloc, names, arena, inner, more) {
             Ok((pair, rest)) => Ok((Some(pair), rest)),
             Err(e) => Err(e),
         },
@@ -502,13 +517,14 @@ fn read_next_pair<'a>(
 #[cycle(exprs)]
 fn read_pairs<'a>(
     alloc: Global,
+    names: &Names,
     arena: &mut Arena,
     inner: u32,
     first: Pair,
     bs: &'a [u8],
 ) -> Result<(Vec<Pair>, &'a [u8]), ReadError>
     requires stands { PairBelow (length arena.old.exprs) first }
-    ensures gives { Gives (λ p. (pairs_made (expr_of arena.new.exprs) p.0.items, p.1.now)) result (pairs (reader_of [] (inside [] inner)) (pair_made (expr_of arena.old.exprs) first) bs.now) }
+    ensures gives { Gives (λ p. (pairs_made (expr_of arena.new.exprs) p.0.items, p.1.now)) result (pairs (reader_of names.now (inside names.now inner)) (pair_made (expr_of arena.old.exprs) first) bs.now) }
     ensures kept { OnOk result (Keeps arena.old arena.new) }
     ensures below { IfOk result (λ p. PairsBelow (length arena.new.exprs) p.0.items) }
 {
@@ -518,7 +534,7 @@ fn read_pairs<'a>(
     let mut fuel = bs.len() + 1;
     while fuel > 0 {
         fuel -= 1;
-        let (next, behind) = match read_next_pair(alloc, arena, inner, rest) {
+        let (next, behind) = match read_next_pair(alloc, names, arena, inner, rest) {
             Ok(p) => p,
             Err(e) => return Err(e),
         };
@@ -538,11 +554,12 @@ fn read_pairs<'a>(
 #[tactic(auto, using(crate::proofs::Ranks::inside_none, crate::proofs::Ranks::inside_some))]
 fn read_index<'a>(
     alloc: Global,
+    names: &Names,
     arena: &mut Arena,
     level: u32,
     bs: &'a [u8],
 ) -> Result<(usize, &'a [u8]), ReadError>
-    ensures gives { Gives (λ p. (expr_of arena.new.exprs p.0, p.1.now)) result (index_in (inside [] level) bs.now) }
+    ensures gives { Gives (λ p. (expr_of arena.new.exprs p.0, p.1.now)) result (index_in (inside names.now level) bs.now) }
     ensures kept { OnOk result (Keeps arena.old arena.new) }
     ensures stands { IfOk result (λ p. p.0 < length arena.new.exprs) }
 {
@@ -550,7 +567,7 @@ fn read_index<'a>(
     if level == 0 {
         return Err(ReadError::Met(Fault::TooDeep(at)));
     }
-    let (k, rest) = match read_rank(alloc, arena, level - 1, 6, How::Alone, bs) {
+    let (k, rest) = match read_rank(alloc, names, arena, level - 1, 6, How::Alone, bs) {
         Ok(p) => p,
         Err(e) => return Err(closed_at(at, e)),
     };
@@ -575,6 +592,7 @@ fn too_many(at: usize, bs: &[u8]) -> Fault
 #[tactic(auto, using(crate::proofs::Trees::keeps_all))]
 fn read_argument<'a>(
     alloc: Global,
+    names: &Names,
     arena: &mut Arena,
     inner: u32,
     at: usize,
@@ -582,7 +600,7 @@ fn read_argument<'a>(
     many: u32,
     bs: &'a [u8],
 ) -> Result<(Option<usize>, &'a [u8]), ReadError>
-    ensures gives { Gives (λ p. ahead_of few many (option_map (expr_of arena.new.exprs) p.0) p.1.now) result (argument_at (reader_of [] (inside [] inner)) at few many bs.now) }
+    ensures gives { Gives (λ p. ahead_of few many (option_map (expr_of arena.new.exprs) p.0) p.1.now) result (argument_at (reader_of names.now (inside names.now inner)) at few many bs.now) }
     ensures kept { OnOk result (Keeps arena.old arena.new) }
     ensures stands { IfOk result (λ p. IfSome p.0 (λ k. k < length arena.new.exprs)) }
 {
@@ -598,7 +616,7 @@ fn read_argument<'a>(
             if many == 0 {
                 return Err(ReadError::Met(Fault::UnsupportedMethod(at)));
             }
-            match read_rank(alloc, arena, inner, 6, How::Alone, white(more)) {
+            match read_rank(alloc, names, arena, inner, 6, How::Alone, white(more)) {
                 Ok((k, rest)) => Ok((Some(k), white(rest))),
                 Err(e) => Err(e),
             }
@@ -611,6 +629,7 @@ fn read_argument<'a>(
 #[cycle(exprs)]
 fn read_arguments<'a>(
     alloc: Global,
+    names: &Names,
     arena: &mut Arena,
     inner: u32,
     at: usize,
@@ -620,7 +639,7 @@ fn read_arguments<'a>(
     bs: &'a [u8],
 ) -> Result<(Vec<usize>, &'a [u8]), ReadError>
     requires stands { first < length arena.old.exprs }
-    ensures gives { Gives (λ p. (exprs_made (expr_of arena.new.exprs) p.0.items, p.1.now)) result (arguments_after (reader_of [] (inside [] inner)) at few many (expr_of arena.old.exprs first) bs.now) }
+    ensures gives { Gives (λ p. (exprs_made (expr_of arena.new.exprs) p.0.items, p.1.now)) result (arguments_after (reader_of names.now (inside names.now inner)) at few many (expr_of arena.old.exprs first) bs.now) }
     ensures kept { OnOk result (Keeps arena.old arena.new) }
     ensures below { IfOk result (λ p. AllBelow (length arena.new.exprs) p.0.items) }
 {
@@ -632,7 +651,7 @@ fn read_arguments<'a>(
     let mut fuel = u64::from(many) + 1;
     while fuel > 0 {
         fuel -= 1;
-        let (next, behind) = match read_argument(alloc, arena, inner, at, needed, allowed, rest) {
+        let (next, behind) = match read_argument(alloc, names, arena, inner, at, needed, allowed, rest) {
             Ok(p) => p,
             Err(e) => return Err(e),
         };
@@ -654,6 +673,7 @@ fn read_arguments<'a>(
 #[tactic(auto, using(crate::proofs::Trees::keeps_all, crate::proofs::Trees::keeps_trans))]
 fn read_inside_call<'a>(
     alloc: Global,
+    names: &Names,
     arena: &mut Arena,
     inner: u32,
     at: usize,
@@ -661,7 +681,7 @@ fn read_inside_call<'a>(
     many: u32,
     bs: &'a [u8],
 ) -> Result<(Vec<usize>, &'a [u8]), ReadError>
-    ensures gives { Gives (λ p. (exprs_made (expr_of arena.new.exprs) p.0.items, p.1.now)) result (arguments_in (reader_of [] (inside [] inner)) at few many bs.now) }
+    ensures gives { Gives (λ p. (exprs_made (expr_of arena.new.exprs) p.0.items, p.1.now)) result (arguments_in (reader_of names.now (inside names.now inner)) at few many bs.now) }
     ensures kept { OnOk result (Keeps arena.old arena.new) }
     ensures below { IfOk result (λ p. AllBelow (length arena.new.exprs) p.0.items) }
 {
@@ -677,13 +697,12 @@ fn read_inside_call<'a>(
     if many == 0 {
         return Err(ReadError::Met(too_many(at, bs)));
     }
-    let (first, rest) = match read_rank(alloc, arena, inner, 6, How::Alone, bs) {
+    let (first, rest) = match read_rank(alloc, names, arena, inner, 6, How::Alone, bs) {
         Ok(p) => p,
         Err(e) => return Err(e),
     };
     read_arguments(
-        alloc,
-        arena,
+        alloc, names, arena,
         inner,
         at,
         few.saturating_sub(1),
@@ -698,13 +717,14 @@ fn read_inside_call<'a>(
 #[tactic(auto, using(crate::proofs::Ranks::inside_none, crate::proofs::Ranks::inside_some))]
 fn read_call<'a>(
     alloc: Global,
+    names: &Names,
     arena: &mut Arena,
     level: u32,
     at: usize,
     name: &[u8],
     bs: &'a [u8],
 ) -> Result<(Vec<usize>, &'a [u8]), ReadError>
-    ensures gives { Gives (λ p. (exprs_made (expr_of arena.new.exprs) p.0.items, p.1.now)) result (arguments (inside [] level) at (arity_of name.now) bs.now) }
+    ensures gives { Gives (λ p. (exprs_made (expr_of arena.new.exprs) p.0.items, p.1.now)) result (arguments (inside names.now level) at (arity_of name.now) bs.now) }
     ensures kept { OnOk result (Keeps arena.old arena.new) }
     ensures below { IfOk result (λ p. AllBelow (length arena.new.exprs) p.0.items) }
 {
@@ -716,7 +736,7 @@ fn read_call<'a>(
     if level == 0 {
         return Err(ReadError::Met(Fault::TooDeep(bracket)));
     }
-    match read_inside_call(alloc, arena, level - 1, at, few, many, white(bs)) {
+    match read_inside_call(alloc, names, arena, level - 1, at, few, many, white(bs)) {
         Ok(p) => Ok(p),
         Err(e) => Err(closed_at(bracket, e)),
     }
@@ -738,12 +758,13 @@ fn bare_dot<'a>(dots: Dots, all: &'a [u8], bs: &[u8]) -> Result<&'a [u8], Fault>
 #[tactic(auto, using(crate::proofs::Trees::keeps_all))]
 fn read_step<'a>(
     alloc: Global,
+    names: &Names,
     arena: &mut Arena,
     level: u32,
     dots: Dots,
     bs: &'a [u8],
 ) -> Result<(Option<Step>, &'a [u8]), ReadError>
-    ensures gives { Gives (λ p. turn_of no_steps (option_map (step_made (expr_of arena.new.exprs)) p.0) p.1.now) result (step_turn (inside [] level) (dots_view dots) bs.now) }
+    ensures gives { Gives (λ p. turn_of no_steps (option_map (step_made (expr_of arena.new.exprs)) p.0) p.1.now) result (step_turn (inside names.now level) (dots_view dots) bs.now) }
     ensures kept { OnOk result (Keeps arena.old arena.new) }
     ensures stands { IfOk result (λ p. IfSome p.0 (StepBelow (length arena.new.exprs))) }
 {
@@ -759,14 +780,14 @@ fn read_step<'a>(
         }
         StepFront::Call(name, rest) => {
             let at = name.len() + rest.len() + 1;
-            let (ids, rest) = match read_call(alloc, arena, level, at, name, rest) {
+            let (ids, rest) = match read_call(alloc, names, arena, level, at, name, rest) {
                 Ok(p) => p,
                 Err(e) => return Err(e),
             };
             let name = text_of(alloc, name)?;
             Ok((Some(Step::Call(name, ids)), rest))
         }
-        StepFront::Index(rest) => match read_index(alloc, arena, level, rest) {
+        StepFront::Index(rest) => match read_index(alloc, names, arena, level, rest) {
             Ok((k, rest)) => Ok((Some(Step::Index(k)), rest)),
             Err(e) => Err(e),
         },
@@ -777,12 +798,13 @@ fn read_step<'a>(
 #[cycle(exprs)]
 fn read_steps<'a>(
     alloc: Global,
+    names: &Names,
     arena: &mut Arena,
     level: u32,
     dots: Dots,
     bs: &'a [u8],
 ) -> Result<(Vec<Step>, &'a [u8]), ReadError>
-    ensures gives { Gives (λ p. (steps_made (expr_of arena.new.exprs) p.0.items, p.1.now)) result (steps_from (inside [] level) (dots_view dots) bs.now) }
+    ensures gives { Gives (λ p. (steps_made (expr_of arena.new.exprs) p.0.items, p.1.now)) result (steps_from (inside names.now level) (dots_view dots) bs.now) }
     ensures kept { OnOk result (Keeps arena.old arena.new) }
     ensures below { IfOk result (λ p. StepsBelow (length arena.new.exprs) p.0.items) }
 {
@@ -791,7 +813,7 @@ fn read_steps<'a>(
     let mut fuel = bs.len() + 1;
     while fuel > 0 {
         fuel -= 1;
-        let (next, behind) = match read_step(alloc, arena, level, dots, rest) {
+        let (next, behind) = match read_step(alloc, names, arena, level, dots, rest) {
             Ok(p) => p,
             Err(e) => return Err(e),
         };
@@ -810,6 +832,7 @@ fn read_steps<'a>(
 #[cycle(exprs)]
 pub fn read_steps_at<'a>(
     alloc: Global,
+    names: &Names,
     arena: &mut Arena,
     level: u32,
     dots: Dots,
@@ -817,14 +840,14 @@ pub fn read_steps_at<'a>(
     at: usize,
     bs: &'a [u8],
 ) -> Result<(Vec<Step>, &'a [u8]), ReadError>
-    ensures gives { Gives (λ p. (steps_made (expr_of arena.new.exprs) p.0.items, p.1.now)) result (steps_at (inside [] level) (dots_view dots) braced at bs.now) }
+    ensures gives { Gives (λ p. (steps_made (expr_of arena.new.exprs) p.0.items, p.1.now)) result (steps_at (inside names.now level) (dots_view dots) braced at bs.now) }
     ensures kept { OnOk result (Keeps arena.old arena.new) }
     ensures below { IfOk result (λ p. StepsBelow (length arena.new.exprs) p.0.items) }
 {
     if !braced {
-        return read_steps(alloc, arena, level, dots, bs);
+        return read_steps(alloc, names, arena, level, dots, bs);
     }
-    let (steps, rest) = match read_steps(alloc, arena, level, dots, bs) {
+    let (steps, rest) = match read_steps(alloc, names, arena, level, dots, bs) {
         Ok(p) => p,
         Err(e) => return Err(closed_at(at, e)),
     };
@@ -839,12 +862,13 @@ pub fn read_steps_at<'a>(
 #[tactic(auto, using(crate::proofs::Bad::bad_is, crate::proofs::Trees::keeps_trans))]
 fn read_dollar<'a>(
     alloc: Global,
+    names: &Names,
     arena: &mut Arena,
     level: u32,
     how: How,
     bs: &'a [u8],
 ) -> Result<(usize, &'a [u8]), ReadError>
-    ensures gives { Gives (λ p. (expr_of arena.new.exprs p.0, p.1.now)) result (dollar (inside [] level) (how_of how) bs.now (begun bs.now)) }
+    ensures gives { Gives (λ p. (expr_of arena.new.exprs p.0, p.1.now)) result (dollar (inside names.now level) (how_of how) bs.now (begun bs.now)) }
     ensures kept { OnOk result (Keeps arena.old arena.new) }
     ensures stands { IfOk result (λ p. p.0 < length arena.new.exprs) }
 {
@@ -858,8 +882,7 @@ fn read_dollar<'a>(
         } => (braced, name, rest),
     };
     let (steps, rest) = match read_steps_at(
-        alloc,
-        arena,
+        alloc, names, arena,
         level,
         dots_in(how, braced),
         braced,
@@ -879,20 +902,21 @@ fn read_dollar<'a>(
 #[tactic(auto, using(crate::proofs::Trees::keeps_all))]
 fn read_part<'a>(
     alloc: Global,
+    names: &Names,
     arena: &mut Arena,
     level: u32,
     bs: &'a [u8],
 ) -> Result<(Option<Part>, &'a [u8]), ReadError>
-    ensures gives { Gives (λ p. turn_of no_parts (option_map (part_made (expr_of arena.new.exprs)) p.0) p.1.now) result (part_turn [] (inside [] level) bs.now) }
+    ensures gives { Gives (λ p. turn_of no_parts (option_map (part_made (expr_of arena.new.exprs)) p.0) p.1.now) result (part_turn names.now (inside names.now level) bs.now) }
     ensures kept { OnOk result (Keeps arena.old arena.new) }
     ensures stands { IfOk result (λ p. IfSome p.0 (PartBelow (length arena.new.exprs))) }
 {
-    let n = run_len(bs);
+    let n = run_len(names, bs);
     if n > 0 {
         let text = text_of(alloc, &bs[..n])?;
         return Ok((Some(Part::Bytes(text)), &bs[n..]));
     }
-    match piece_at(bs) {
+    match piece_at(names, bs) {
         Piece::End | Piece::Byte => Ok((None, &[])),
         Piece::Bad(fault) => Err(ReadError::Met(fault)),
         Piece::Reference {
@@ -902,8 +926,7 @@ fn read_part<'a>(
             rest,
         } => {
             let (steps, rest) = match read_steps_at(
-                alloc,
-                arena,
+                alloc, names, arena,
                 level,
                 dots_out(braced),
                 braced,
@@ -924,11 +947,12 @@ fn read_part<'a>(
 #[cycle(exprs)]
 fn read_parts<'a>(
     alloc: Global,
+    names: &Names,
     arena: &mut Arena,
     level: u32,
     bs: &'a [u8],
 ) -> Result<(Vec<Part>, &'a [u8]), ReadError>
-    ensures gives { Gives (λ p. (parts_made (expr_of arena.new.exprs) p.0.items, p.1.now)) result (parts_of [] (inside [] level) bs.now) }
+    ensures gives { Gives (λ p. (parts_made (expr_of arena.new.exprs) p.0.items, p.1.now)) result (parts_of names.now (inside names.now level) bs.now) }
     ensures kept { OnOk result (Keeps arena.old arena.new) }
     ensures below { IfOk result (λ p. PartsBelow (length arena.new.exprs) p.0.items) }
 {
@@ -937,7 +961,7 @@ fn read_parts<'a>(
     let mut fuel = bs.len() + 1;
     while fuel > 0 {
         fuel -= 1;
-        let (next, behind) = match read_part(alloc, arena, level, rest) {
+        let (next, behind) = match read_part(alloc, names, arena, level, rest) {
             Ok(p) => p,
             Err(e) => return Err(e),
         };
@@ -957,24 +981,25 @@ fn read_parts<'a>(
 #[tactic(auto, using(crate::proofs::Trees::keeps_trans))]
 fn read_double<'a>(
     alloc: Global,
+    names: &Names,
     arena: &mut Arena,
     level: u32,
     bs: &'a [u8],
 ) -> Result<(usize, &'a [u8]), ReadError>
-    ensures gives { Gives (λ p. (expr_of arena.new.exprs p.0, p.1.now)) result (double_quoted [] (inside [] level) bs.now) }
+    ensures gives { Gives (λ p. (expr_of arena.new.exprs p.0, p.1.now)) result (double_quoted names.now (inside names.now level) bs.now) }
     ensures kept { OnOk result (Keeps arena.old arena.new) }
     ensures stands { IfOk result (λ p. p.0 < length arena.new.exprs) }
 {
     match until_byte(b'"', bs) {
         Some((text, rest)) => {
-            let (parts, _) = match read_parts(alloc, arena, level, text) {
+            let (parts, _) = match read_parts(alloc, names, arena, level, text) {
                 Ok(p) => p,
                 Err(e) => return Err(moved_by(rest.len() + 1, e)),
             };
             let k = arena.add_expr(ExprNode::Joined(parts))?;
             Ok((k, rest))
         }
-        None => match read_parts(alloc, arena, level, bs) {
+        None => match read_parts(alloc, names, arena, level, bs) {
             Ok(_) => Err(ReadError::Met(Fault::Unclosed(bs.len() + 1))),
             Err(e) => Err(closed_at(bs.len() + 1, e)),
         },
@@ -986,12 +1011,13 @@ fn read_double<'a>(
 #[tactic(auto, using(crate::proofs::Bad::bad_is), unfolding(vtl_grammar::specs::Expressions::operand))]
 fn read_operand<'a>(
     alloc: Global,
+    names: &Names,
     arena: &mut Arena,
     level: u32,
     how: How,
     bs: &'a [u8],
 ) -> Result<(usize, &'a [u8]), ReadError>
-    ensures gives { Gives (λ p. (expr_of arena.new.exprs p.0, p.1.now)) result (operand [] (inside [] level) (how_of how) bs.now) }
+    ensures gives { Gives (λ p. (expr_of arena.new.exprs p.0, p.1.now)) result (operand names.now (inside names.now level) (how_of how) bs.now) }
     ensures kept { OnOk result (Keeps arena.old arena.new) }
     ensures stands { IfOk result (λ p. p.0 < length arena.new.exprs) }
 {
@@ -1000,12 +1026,12 @@ fn read_operand<'a>(
         return Err(ReadError::Met(Fault::Unclosed(0)));
     };
     match lead_of(*b) {
-        Lead::Exclamation => read_negation(alloc, arena, level, how, all.len(), rest),
+        Lead::Exclamation => read_negation(alloc, names, arena, level, how, all.len(), rest),
         Lead::Not => match whole_word(b"not", all) {
-            Some(rest) => read_negation(alloc, arena, level, how, all.len(), rest),
+            Some(rest) => read_negation(alloc, names, arena, level, how, all.len(), rest),
             None => Err(ReadError::Met(bad_not(all))),
         },
-        Lead::Dollar => read_dollar(alloc, arena, level, how, rest),
+        Lead::Dollar => read_dollar(alloc, names, arena, level, how, rest),
         Lead::Minus => match minus_number(how, rest) {
             Ok((z, rest)) => {
                 let k = arena.add_expr(ExprNode::Whole(z))?;
@@ -1021,7 +1047,7 @@ fn read_operand<'a>(
             Err(fault) => Err(ReadError::Met(fault)),
         },
         Lead::Quote => read_single(alloc, arena, rest),
-        Lead::DoubleQuote => read_double(alloc, arena, level, rest),
+        Lead::DoubleQuote => read_double(alloc, names, arena, level, rest),
         Lead::Boolean => match boolean(all) {
             Ok((b, rest)) => {
                 let k = arena.add_expr(ExprNode::Boolean(b))?;
@@ -1029,9 +1055,9 @@ fn read_operand<'a>(
             }
             Err(fault) => Err(ReadError::Met(fault)),
         },
-        Lead::Round => read_round(alloc, arena, level, rest),
-        Lead::Square => read_square(alloc, arena, level, rest),
-        Lead::Brace => read_brace(alloc, arena, level, rest),
+        Lead::Round => read_round(alloc, names, arena, level, rest),
+        Lead::Square => read_square(alloc, names, arena, level, rest),
+        Lead::Brace => read_brace(alloc, names, arena, level, rest),
         Lead::Nothing => Err(ReadError::Met(Fault::BadExpression(all.len()))),
     }
 }

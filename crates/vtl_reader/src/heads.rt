@@ -1,5 +1,5 @@
 // The heads of directives, from behind their words to the closing bracket.
-ghost use Rattle.std.specs.Prelude.{◌≡◌, ◌<◌, ℕ, List, [], length, Ok, IfOk, IfSome, OnOk};
+ghost use Rattle.std.specs.Prelude.{◌≡◌, ◌<◌, ℕ, List, [], length, Ok, IfOk, IfSome, OnOk, option_copied};
 ghost use Rattle.vtl_grammar.specs.Bytes.{taken as taken_of};
 ghost use Rattle.vtl_grammar.specs.Faults.{up_to};
 ghost use Rattle.vtl_grammar.specs.Operators.{alone};
@@ -17,22 +17,24 @@ use std::alloc::Global;
 use vtl_grammar::Fault;
 use vtl_words::bytes::{expect, taken, white};
 use vtl_words::directives::{
-    Left, bad_form, bracket, form, form_name, goes_on, is_apart, is_one_of, left_of, loop_variable,
+    Left, bad_form, bracket, form, form_name, goes_on, is_apart, left_of, loop_variable,
 };
+use vtl_words::names::Names;
 use vtl_words::operators::How;
 
 // An expression and its closing bracket.
 fn closed_expr<'a>(
     alloc: Global,
+    names: &Names,
     arena: &mut Arena,
     level: u32,
     bs: &'a [u8],
 ) -> Result<(usize, &'a [u8]), ReadError>
-    ensures gives { Gives (λ p. (expr_of arena.new.exprs p.0, p.1.now)) result (up_to 41 (reader [] (inside [] level) 6 alone bs.now)) }
+    ensures gives { Gives (λ p. (expr_of arena.new.exprs p.0, p.1.now)) result (up_to 41 (reader names.now (inside names.now level) 6 alone bs.now)) }
     ensures kept { OnOk result (Keeps arena.old arena.new) }
     ensures stands { IfOk result (λ p. p.0 < length arena.new.exprs) }
 {
-    let (k, rest) = match read_rank(alloc, arena, level, 6, How::Alone, bs) {
+    let (k, rest) = match read_rank(alloc, names, arena, level, 6, How::Alone, bs) {
         Ok(p) => p,
         Err(e) => return Err(e),
     };
@@ -45,12 +47,13 @@ fn closed_expr<'a>(
 /// The condition of the `#if` or `#elseif` at this place.
 pub fn condition<'a>(
     alloc: Global,
+    names: &Names,
     arena: &mut Arena,
     level: u32,
     at: usize,
     bs: &'a [u8],
 ) -> Result<(usize, &'a [u8]), ReadError>
-    ensures gives { Gives (λ p. (expr_of arena.new.exprs p.0, p.1.now)) result (condition_of (reader [] (inside [] level)) at bs.now) }
+    ensures gives { Gives (λ p. (expr_of arena.new.exprs p.0, p.1.now)) result (condition_of (reader names.now (inside names.now level)) at bs.now) }
     ensures kept { OnOk result (Keeps arena.old arena.new) }
     ensures stands { IfOk result (λ p. p.0 < length arena.new.exprs) }
 {
@@ -58,7 +61,7 @@ pub fn condition<'a>(
         Ok(rest) => rest,
         Err(fault) => return Err(ReadError::Met(fault)),
     };
-    match closed_expr(alloc, arena, level, rest) {
+    match closed_expr(alloc, names, arena, level, rest) {
         Ok(p) => Ok(p),
         Err(e) => Err(closed_at(rest.len() + 1, e)),
     }
@@ -126,7 +129,7 @@ fn context_path<'a>(alloc: Global, at: usize, bs: &'a [u8]) -> Result<(Target, &
 fn target_behind<'a>(
     alloc: Global,
     at: usize,
-    params: &[Text],
+    params: &Names,
     name: &[u8],
     bs: &'a [u8],
 ) -> Result<(Target, &'a [u8]), ReadError>
@@ -153,7 +156,7 @@ fn target_behind<'a>(
 fn target<'a>(
     alloc: Global,
     at: usize,
-    params: &[Text],
+    params: &Names,
     bs: &'a [u8],
 ) -> Result<(Target, &'a [u8]), ReadError>
     ensures { Gives (λ p. (target_of p.0, p.1.now)) result (target_spec at params.now (taken_of 123 bs.now)) }
@@ -182,13 +185,14 @@ fn target<'a>(
 // Behind the bracket of a `#set`.
 fn set_in<'a>(
     alloc: Global,
+    names: &Names,
     arena: &mut Arena,
     level: u32,
     at: usize,
-    params: &[Text],
+    params: &Names,
     bs: &'a [u8],
 ) -> Result<(Target, usize, &'a [u8]), ReadError>
-    ensures gives { Gives (λ p. ((target_of p.0, expr_of arena.new.exprs p.1), p.2.now)) result (set_in_of (reader [] (inside [] level)) at params.now bs.now) }
+    ensures gives { Gives (λ p. ((target_of p.0, expr_of arena.new.exprs p.1), p.2.now)) result (set_in_of (reader names.now (inside names.now level)) at params.now bs.now) }
     ensures kept { OnOk result (Keeps arena.old arena.new) }
     ensures stands { IfOk result (λ p. p.1 < length arena.new.exprs) }
 {
@@ -204,7 +208,7 @@ fn set_in<'a>(
         Ok(rest) => rest,
         Err(fault) => return Err(ReadError::Met(fault)),
     };
-    match closed_expr(alloc, arena, level, rest) {
+    match closed_expr(alloc, names, arena, level, rest) {
         Ok((k, rest)) => Ok((target, k, rest)),
         Err(e) => Err(e),
     }
@@ -213,13 +217,14 @@ fn set_in<'a>(
 /// The `#set` at this place: what it writes, and the expression.
 pub fn set_at<'a>(
     alloc: Global,
+    names: &Names,
     arena: &mut Arena,
     level: u32,
     at: usize,
-    params: &[Text],
+    params: &Names,
     bs: &'a [u8],
 ) -> Result<(Target, usize, &'a [u8]), ReadError>
-    ensures gives { Gives (λ p. ((target_of p.0, expr_of arena.new.exprs p.1), p.2.now)) result (set_at_of (reader [] (inside [] level)) at params.now bs.now) }
+    ensures gives { Gives (λ p. ((target_of p.0, expr_of arena.new.exprs p.1), p.2.now)) result (set_at_of (reader names.now (inside names.now level)) at params.now bs.now) }
     ensures kept { OnOk result (Keeps arena.old arena.new) }
     ensures stands { IfOk result (λ p. p.1 < length arena.new.exprs) }
 {
@@ -227,7 +232,7 @@ pub fn set_at<'a>(
         Ok(rest) => rest,
         Err(fault) => return Err(ReadError::Met(fault)),
     };
-    match set_in(alloc, arena, level, at, params, rest) {
+    match set_in(alloc, names, arena, level, at, params, rest) {
         Ok(p) => Ok(p),
         Err(e) => Err(closed_at(rest.len() + 1, e)),
     }
@@ -236,13 +241,14 @@ pub fn set_at<'a>(
 // Behind the bracket of a `#foreach`.
 fn foreach_in<'a>(
     alloc: Global,
+    names: &Names,
     arena: &mut Arena,
     level: u32,
     at: usize,
-    params: &[Text],
+    params: &Names,
     bs: &'a [u8],
 ) -> Result<(Text, usize, &'a [u8]), ReadError>
-    ensures gives { Gives (λ p. ((p.0, expr_of arena.new.exprs p.1), p.2.now)) result (foreach_in_of (reader [] (inside [] level)) at params.now bs.now) }
+    ensures gives { Gives (λ p. ((p.0, expr_of arena.new.exprs p.1), p.2.now)) result (foreach_in_of (reader names.now (inside names.now level)) at params.now bs.now) }
     ensures kept { OnOk result (Keeps arena.old arena.new) }
     ensures stands { IfOk result (λ p. p.1 < length arena.new.exprs) }
 {
@@ -258,7 +264,7 @@ fn foreach_in<'a>(
         Ok(rest) => rest,
         Err(fault) => return Err(ReadError::Met(fault)),
     };
-    let (k, rest) = match closed_expr(alloc, arena, level, rest) {
+    let (k, rest) = match closed_expr(alloc, names, arena, level, rest) {
         Ok(p) => p,
         Err(e) => return Err(e),
     };
@@ -269,13 +275,14 @@ fn foreach_in<'a>(
 /// The head of the `#foreach` at this place: its loop variable and its list.
 pub fn foreach_at<'a>(
     alloc: Global,
+    names: &Names,
     arena: &mut Arena,
     level: u32,
     at: usize,
-    params: &[Text],
+    params: &Names,
     bs: &'a [u8],
 ) -> Result<(Text, usize, &'a [u8]), ReadError>
-    ensures gives { Gives (λ p. ((p.0, expr_of arena.new.exprs p.1), p.2.now)) result (foreach_at_of (reader [] (inside [] level)) at params.now bs.now) }
+    ensures gives { Gives (λ p. ((p.0, expr_of arena.new.exprs p.1), p.2.now)) result (foreach_at_of (reader names.now (inside names.now level)) at params.now bs.now) }
     ensures kept { OnOk result (Keeps arena.old arena.new) }
     ensures stands { IfOk result (λ p. p.1 < length arena.new.exprs) }
 {
@@ -283,7 +290,7 @@ pub fn foreach_at<'a>(
         Ok(rest) => rest,
         Err(fault) => return Err(ReadError::Met(fault)),
     };
-    match foreach_in(alloc, arena, level, at, params, rest) {
+    match foreach_in(alloc, names, arena, level, at, params, rest) {
         Ok(p) => Ok(p),
         Err(e) => Err(closed_at(rest.len() + 1, e)),
     }
@@ -291,8 +298,8 @@ pub fn foreach_at<'a>(
 
 // The next parameter of a macro, where one follows.
 #[tactic(auto, using(crate::proofs::Bad::bad_form_is))]
-fn param<'a>(alloc: Global, at: usize, bs: &'a [u8]) -> Result<(Option<Text>, &'a [u8]), ReadError>
-    ensures { Gives (λ p. turn_of {A = List ℕ} [] p.0 p.1.now) result (param_turn at bs.now) }
+fn param<'a>(at: usize, bs: &'a [u8]) -> Result<(Option<&'a [u8]>, &'a [u8]), ReadError>
+    ensures { Gives (λ p. turn_of {A = List ℕ} [] (option_copied p.0) p.1.now) result (param_turn at bs.now) }
 {
     let (closes, rest) = taken(b')', white(bs));
     if closes {
@@ -309,27 +316,26 @@ fn param<'a>(alloc: Global, at: usize, bs: &'a [u8]) -> Result<(Option<Text>, &'
         Ok(named) => named,
         Err(fault) => return Err(ReadError::Met(fault)),
     };
-    let name = text_of(alloc, name)?;
     Ok((Some(name), rest))
 }
 
 // The parameters of a macro.
-fn params<'a>(alloc: Global, at: usize, bs: &'a [u8]) -> Result<(Vec<Text>, &'a [u8]), ReadError>
-    ensures { Gives (λ p. (p.0.items, p.1.now)) result (params_of at bs.now) }
+fn params<'a>(alloc: Global, at: usize, bs: &'a [u8]) -> Result<(Names, &'a [u8]), ReadError>
+    ensures { Gives (λ p. (p.0, p.1.now)) result (params_of at bs.now) }
 {
-    let mut names = Vec::new(alloc);
+    let mut names = Names::new(alloc);
     let mut rest = bs;
     let mut fuel = bs.len() + 1;
     while fuel > 0 {
         fuel -= 1;
-        let (next, behind) = match param(alloc, at, rest) {
+        let (next, behind) = match param(at, rest) {
             Ok(p) => p,
             Err(e) => return Err(e),
         };
         match next {
             None => return Ok((names, behind)),
             Some(name) => {
-                names.push(name)?;
+                names.push(alloc, name)?;
                 rest = behind;
             }
         }
@@ -341,10 +347,10 @@ fn params<'a>(alloc: Global, at: usize, bs: &'a [u8]) -> Result<(Vec<Text>, &'a 
 fn macro_in<'a>(
     alloc: Global,
     at: usize,
-    defined: &[Text],
+    defined: &Names,
     bs: &'a [u8],
-) -> Result<(Text, Vec<Text>, &'a [u8]), ReadError>
-    ensures { Gives (λ p. ((p.0, p.1.items), p.2.now)) result (macro_in_of at defined.now bs.now) }
+) -> Result<(Text, Names, &'a [u8]), ReadError>
+    ensures { Gives (λ p. ((p.0, p.1), p.2.now)) result (macro_in_of at defined.now bs.now) }
 {
     let (name, rest) = match form_name(at, white(bs)) {
         Ok(named) => named,
@@ -353,7 +359,7 @@ fn macro_in<'a>(
     if rest.is_empty() {
         return Err(ReadError::Met(Fault::Unclosed(0)));
     }
-    if is_one_of(defined, name) {
+    if defined.contains(name) {
         return Err(ReadError::Met(Fault::BadDirective(at)));
     }
     let (params, rest) = match params(alloc, at, rest) {
@@ -368,10 +374,10 @@ fn macro_in<'a>(
 pub fn macro_at<'a>(
     alloc: Global,
     at: usize,
-    defined: &[Text],
+    defined: &Names,
     bs: &'a [u8],
-) -> Result<(Text, Vec<Text>, &'a [u8]), ReadError>
-    ensures { Gives (λ p. ((p.0, p.1.items), p.2.now)) result (macro_at_of at defined.now bs.now) }
+) -> Result<(Text, Names, &'a [u8]), ReadError>
+    ensures { Gives (λ p. ((p.0, p.1), p.2.now)) result (macro_at_of at defined.now bs.now) }
 {
     let rest = match bracket(at, bs) {
         Ok(rest) => rest,

@@ -1,7 +1,8 @@
 // Reads items, and the blocks of directives.
-ghost use Rattle.std.specs.Prelude.{◌≡◌, ◌+◌, ◌<◌, ◌++◌, [], length, map, Ok, IfOk, IfErr, OnOk, if◌then◌else◌};
+ghost use Rattle.std.specs.Prelude.{◌≡◌, ◌+◌, ◌<◌, ◌++◌, [], length, map, None, Ok, IfOk, IfErr, OnOk, if◌then◌else◌};
 ghost use Rattle.vtl_grammar.specs.Tree.{otherwise};
 ghost use Rattle.vtl_grammar.specs.Faults.{within};
+ghost use Rattle.vtl_grammar.specs.Words.{Macro as macro_word};
 ghost use Rattle.vtl_grammar.specs.Lines.{lines};
 ghost use Rattle.vtl_grammar.specs.Items.{items as items_spec, item_turn as item_turn_spec, item_at as item_at_spec, directive_turn, at_end as at_end_of, at_else as at_else_of, at_elseif as at_elseif_of, at_macro, set_turn, reference_turn, if_inside as if_inside_of, foreach_inside as foreach_inside_of, macro_inside as macro_inside_of, body, branch_turn as branch_turn_spec, branches as branches_spec, below, text_item};
 ghost use Rattle.vtl_words.specs.Views.{word_of};
@@ -12,16 +13,17 @@ ghost use Rattle.vtl_reader.specs.Views.{Gives};
 
 use crate::arena::Arena;
 use crate::blocks::{Around, BranchTurn, ItemTurn, Place, Stop};
+use crate::calls::call_at;
 use crate::error::{ReadError, closed_at, text_of};
 use crate::exprs::{read_steps_at, source_of};
 use crate::heads::{condition, foreach_at, macro_at, set_at};
 use crate::nodes::{Branch, ItemNode};
 use crate::text::text_run;
-use gw_base::Text;
 use std::alloc::Global;
 use vtl_grammar::Fault;
 use vtl_words::fronts::Front;
 use vtl_words::lines::{cut, end_directive};
+use vtl_words::names::Names;
 use vtl_words::references::dots_out;
 use vtl_words::words::Word;
 
@@ -50,10 +52,11 @@ fn flush(
 // A reference in text.
 fn read_output<'a>(
     alloc: Global,
+    names: &Names,
     arena: &mut Arena,
     level: u32,
     around: &Around<'_>,
-    defined: &[Text],
+    defined: &Names,
     text: &mut Vec<u8>,
     all: &'a [u8],
     quiet: bool,
@@ -61,13 +64,12 @@ fn read_output<'a>(
     name: &[u8],
     bs: &'a [u8],
 ) -> Result<ItemTurn<'a>, ReadError>
-    ensures gives { Gives (λ t. item_turn_of arena.new text.new.items (around_of defined.now around.now) t) result (reference_turn (below [] level) (around_of defined.now around.now) text.old.items all.now quiet braced name.now bs.now) }
+    ensures gives { Gives (λ t. item_turn_of arena.new text.new.items (around_of defined.now around.now) t) result (reference_turn (below names.now level) (around_of defined.now around.now) text.old.items all.now quiet braced name.now bs.now) }
     ensures kept { OnOk result (Keeps arena.old arena.new) }
     ensures stands { IfOk result (λ t. TurnStands arena.new t) }
 {
     let (steps, rest) = match read_steps_at(
-        alloc,
-        arena,
+        alloc, names, arena,
         level,
         dots_out(braced),
         braced,
@@ -86,20 +88,21 @@ fn read_output<'a>(
 // A `#set`.
 fn read_set<'a>(
     alloc: Global,
+    names: &Names,
     arena: &mut Arena,
     level: u32,
     around: &Around<'_>,
-    defined: &[Text],
+    defined: &Names,
     text: &mut Vec<u8>,
     line: Option<usize>,
     at: usize,
     bs: &'a [u8],
 ) -> Result<ItemTurn<'a>, ReadError>
-    ensures gives { Gives (λ t. item_turn_of arena.new text.new.items (around_of defined.now around.now) t) result (set_turn (below [] level) (around_of defined.now around.now) at line text.old.items bs.now) }
+    ensures gives { Gives (λ t. item_turn_of arena.new text.new.items (around_of defined.now around.now) t) result (set_turn (below names.now level) (around_of defined.now around.now) at line text.old.items bs.now) }
     ensures kept { OnOk result (Keeps arena.old arena.new) }
     ensures stands { IfOk result (λ t. TurnStands arena.new t) }
 {
-    let (target, value, rest) = match set_at(alloc, arena, level, at, around.params, bs) {
+    let (target, value, rest) = match set_at(alloc, names, arena, level, at, around.params, bs) {
         Ok(p) => p,
         Err(e) => return Err(e),
     };
@@ -111,23 +114,24 @@ fn read_set<'a>(
 // An `#elseif`.
 fn read_elseif<'a>(
     alloc: Global,
+    names: &Names,
     arena: &mut Arena,
     level: u32,
     around: &Around<'_>,
-    defined: &[Text],
+    defined: &Names,
     text: &mut Vec<u8>,
     line: Option<usize>,
     at: usize,
     bs: &'a [u8],
 ) -> Result<ItemTurn<'a>, ReadError>
-    ensures gives { Gives (λ t. item_turn_of arena.new text.new.items (around_of defined.now around.now) t) result (at_elseif_of (below [] level) (place_of defined.now around.now.place) at line text.old.items bs.now) }
+    ensures gives { Gives (λ t. item_turn_of arena.new text.new.items (around_of defined.now around.now) t) result (at_elseif_of (below names.now level) (place_of defined.now around.now.place) at line text.old.items bs.now) }
     ensures kept { OnOk result (Keeps arena.old arena.new) }
     ensures stands { IfOk result (λ t. TurnStands arena.new t) }
 {
     if around.place != Place::Branch {
         return Err(ReadError::Met(Fault::BadDirective(at)));
     }
-    let (k, rest) = match condition(alloc, arena, level, at, bs) {
+    let (k, rest) = match condition(alloc, names, arena, level, at, bs) {
         Ok(p) => p,
         Err(e) => return Err(e),
     };
@@ -139,7 +143,7 @@ fn read_elseif<'a>(
 fn read_stop<'a>(
     arena: &Arena,
     around: &Around<'_>,
-    defined: &[Text],
+    defined: &Names,
     text: &mut Vec<u8>,
     line: Option<usize>,
     at: usize,
@@ -160,10 +164,37 @@ fn read_stop<'a>(
     }))
 }
 
+// A macro's call.
+fn read_macro_call<'a>(
+    alloc: Global,
+    names: &Names,
+    arena: &mut Arena,
+    level: u32,
+    around: &Around<'_>,
+    defined: &Names,
+    text: &mut Vec<u8>,
+    at: usize,
+    name: &[u8],
+    bs: &'a [u8],
+) -> Result<ItemTurn<'a>, ReadError>
+    ensures gives { Gives (λ t. item_turn_of arena.new text.new.items (around_of defined.now around.now) t) result (directive_turn (below names.now level) (around_of defined.now around.now) text.old.items None at (macro_word name.now) bs.now) }
+    ensures kept { OnOk result (Keeps arena.old arena.new) }
+    ensures stands { IfOk result (λ t. TurnStands arena.new t) }
+{
+    let (ids, rest) = match call_at(alloc, names, arena, level, at, bs) {
+        Ok(p) => p,
+        Err(e) => return Err(e),
+    };
+    let name = text_of(alloc, name)?;
+    let k = arena.add_item(ItemNode::MacroCall(at, name, ids))?;
+    Ok(ItemTurn::Item(k, None, rest))
+}
+
 // The items of a block that `#end` alone ends, and what follows it.
 #[cycle(items)]
 fn read_block<'a>(
     alloc: Global,
+    names: &Names,
     arena: &mut Arena,
     level: u32,
     around: &Around<'_>,
@@ -171,12 +202,12 @@ fn read_block<'a>(
     bs: &'a [u8],
 ) -> Result<(Vec<usize>, Option<usize>, &'a [u8]), ReadError>
     requires line { IsFresh line }
-    ensures gives { Gives (λ p. (items_made (item_of arena.new) p.0.items, (p.1, p.2.now))) result (body (items_spec (below [] level)) (around_of [] around.now) (line, bs.now)) }
+    ensures gives { Gives (λ p. (items_made (item_of arena.new) p.0.items, (p.1, p.2.now))) result (body (items_spec (below names.now level)) (around_of [] around.now) (line, bs.now)) }
     ensures kept { OnOk result (Keeps arena.old arena.new) }
     ensures below { IfOk result (λ p. AllBelow (length arena.new.items) p.0.items) }
     ensures line { IfOk result (λ p. IsFresh p.1) }
 {
-    let (ids, stop) = match read_items(alloc, arena, level, around, line, bs) {
+    let (ids, stop) = match read_items(alloc, names, arena, level, around, line, bs) {
         Ok(p) => p,
         Err(e) => return Err(e),
     };
@@ -192,6 +223,7 @@ fn read_block<'a>(
 #[cycle(items)]
 fn read_branch<'a>(
     alloc: Global,
+    names: &Names,
     arena: &mut Arena,
     level: u32,
     around: &Around<'_>,
@@ -201,11 +233,11 @@ fn read_branch<'a>(
 ) -> Result<BranchTurn<'a>, ReadError>
     requires stands { condition < length arena.old.exprs }
     requires line { IsFresh line }
-    ensures gives { Gives (λ t. branch_turn_of arena.new t) result (branch_turn_spec (items_spec (below [] level)) (around_of [] around.now) (expr_of arena.old.exprs condition, (line, bs.now))) }
+    ensures gives { Gives (λ t. branch_turn_of arena.new t) result (branch_turn_spec (items_spec (below names.now level)) (around_of [] around.now) (expr_of arena.old.exprs condition, (line, bs.now))) }
     ensures kept { OnOk result (Keeps arena.old arena.new) }
     ensures stands { IfOk result (λ t. BranchStands arena.new t) }
 {
-    let (items, stop) = match read_items(alloc, arena, level, around, line, bs) {
+    let (items, stop) = match read_items(alloc, names, arena, level, around, line, bs) {
         Ok(p) => p,
         Err(e) => return Err(e),
     };
@@ -220,7 +252,7 @@ fn read_branch<'a>(
                 looping: around.looping,
                 params: around.params,
             };
-            match read_block(alloc, arena, level, &otherwise, line, rest) {
+            match read_block(alloc, names, arena, level, &otherwise, line, rest) {
                 Ok((ids, line, rest)) => Ok(BranchTurn::Last(branch, ids, line, rest)),
                 Err(e) => Err(e),
             }
@@ -232,6 +264,7 @@ fn read_branch<'a>(
 #[cycle(items)]
 fn read_branches<'a>(
     alloc: Global,
+    names: &Names,
     arena: &mut Arena,
     level: u32,
     around: &Around<'_>,
@@ -242,7 +275,7 @@ fn read_branches<'a>(
 ) -> Result<(Vec<Branch>, Vec<usize>, Option<usize>, &'a [u8]), ReadError>
     requires stands { first < length arena.old.exprs }
     requires line { IsFresh start }
-    ensures gives { Gives (λ p. (branches_made (expr_of arena.new.exprs) (item_of arena.new) p.0.items (items_made (item_of arena.new) p.1.items), (p.2, p.3.now))) result (branches_spec (items_spec (below [] level)) (around_of [] around.now) most (expr_of arena.old.exprs first, (start, bs.now))) }
+    ensures gives { Gives (λ p. (branches_made (expr_of arena.new.exprs) (item_of arena.new) p.0.items (items_made (item_of arena.new) p.1.items), (p.2, p.3.now))) result (branches_spec (items_spec (below names.now level)) (around_of [] around.now) most (expr_of arena.old.exprs first, (start, bs.now))) }
     ensures kept { OnOk result (Keeps arena.old arena.new) }
     ensures below { IfOk result (λ p. BranchesBelow (length arena.new.exprs) (length arena.new.items) p.0.items × AllBelow (length arena.new.items) p.1.items) }
     ensures line { IfOk result (λ p. IsFresh p.2) }
@@ -254,7 +287,7 @@ fn read_branches<'a>(
     let mut fuel = most;
     while fuel > 0 {
         fuel -= 1;
-        let turn = match read_branch(alloc, arena, level, around, condition, line, rest) {
+        let turn = match read_branch(alloc, names, arena, level, around, condition, line, rest) {
             Ok(turn) => turn,
             Err(e) => return Err(e),
         };
@@ -279,20 +312,21 @@ fn read_branches<'a>(
 #[tactic(auto, using(crate::proofs::Ranks::blocks_none, crate::proofs::Ranks::blocks_some, crate::proofs::Trees::keeps_trans))]
 fn read_if<'a>(
     alloc: Global,
+    names: &Names,
     arena: &mut Arena,
     level: u32,
     around: &Around<'_>,
-    defined: &[Text],
+    defined: &Names,
     text: &mut Vec<u8>,
     line: Option<usize>,
     at: usize,
     bs: &'a [u8],
 ) -> Result<ItemTurn<'a>, ReadError>
-    ensures gives { Gives (λ t. item_turn_of arena.new text.new.items (around_of defined.now around.now) t) result (if_inside_of (below [] level) (around_of defined.now around.now) at line text.old.items bs.now) }
+    ensures gives { Gives (λ t. item_turn_of arena.new text.new.items (around_of defined.now around.now) t) result (if_inside_of (below names.now level) (around_of defined.now around.now) at line text.old.items bs.now) }
     ensures kept { OnOk result (Keeps arena.old arena.new) }
     ensures stands { IfOk result (λ t. TurnStands arena.new t) }
 {
-    let (first, rest) = match condition(alloc, arena, level, at, bs) {
+    let (first, rest) = match condition(alloc, names, arena, level, at, bs) {
         Ok(p) => p,
         Err(e) => return Err(e),
     };
@@ -306,8 +340,7 @@ fn read_if<'a>(
         params: around.params,
     };
     let (branches, otherwise, line, rest) = match read_branches(
-        alloc,
-        arena,
+        alloc, names, arena,
         level - 1,
         &inside,
         bs.len() + 1,
@@ -327,20 +360,21 @@ fn read_if<'a>(
 #[tactic(auto, using(crate::proofs::Ranks::blocks_none, crate::proofs::Ranks::blocks_some, crate::proofs::Trees::keeps_trans))]
 fn read_foreach<'a>(
     alloc: Global,
+    names: &Names,
     arena: &mut Arena,
     level: u32,
     around: &Around<'_>,
-    defined: &[Text],
+    defined: &Names,
     text: &mut Vec<u8>,
     line: Option<usize>,
     at: usize,
     bs: &'a [u8],
 ) -> Result<ItemTurn<'a>, ReadError>
-    ensures gives { Gives (λ t. item_turn_of arena.new text.new.items (around_of defined.now around.now) t) result (foreach_inside_of (below [] level) (around_of defined.now around.now) at line text.old.items bs.now) }
+    ensures gives { Gives (λ t. item_turn_of arena.new text.new.items (around_of defined.now around.now) t) result (foreach_inside_of (below names.now level) (around_of defined.now around.now) at line text.old.items bs.now) }
     ensures kept { OnOk result (Keeps arena.old arena.new) }
     ensures stands { IfOk result (λ t. TurnStands arena.new t) }
 {
-    let (name, list, rest) = match foreach_at(alloc, arena, level, at, around.params, bs) {
+    let (name, list, rest) = match foreach_at(alloc, names, arena, level, at, around.params, bs) {
         Ok(p) => p,
         Err(e) => return Err(e),
     };
@@ -353,7 +387,7 @@ fn read_foreach<'a>(
         looping: true,
         params: around.params,
     };
-    let (ids, line, rest) = match read_block(alloc, arena, level - 1, &inside, line, rest) {
+    let (ids, line, rest) = match read_block(alloc, names, arena, level - 1, &inside, line, rest) {
         Ok(p) => p,
         Err(e) => return Err(e),
     };
@@ -366,17 +400,18 @@ fn read_foreach<'a>(
 #[tactic(auto, using(crate::proofs::Ranks::blocks_none, crate::proofs::Ranks::blocks_some, crate::proofs::Trees::keeps_trans))]
 fn read_macro<'a>(
     alloc: Global,
+    names: &Names,
     arena: &mut Arena,
     level: u32,
     around: &Around<'_>,
-    defined: &mut Vec<Text>,
+    defined: &mut Names,
     text: &mut Vec<u8>,
     line: Option<usize>,
     at: usize,
     bs: &'a [u8],
 ) -> Result<ItemTurn<'a>, ReadError>
     requires top { around.now.place ≡ Place.Top }
-    ensures gives { Gives (λ t. item_turn_of arena.new text.new.items (around_of defined.new.items around.now) t) result (macro_inside_of (below [] level) defined.old.items (around_of defined.old.items around.now) at line text.old.items bs.now) }
+    ensures gives { Gives (λ t. item_turn_of arena.new text.new.items (around_of defined.new around.now) t) result (macro_inside_of (below names.now level) defined.old (around_of defined.old around.now) at line text.old.items bs.now) }
     ensures kept { OnOk result (Keeps arena.old arena.new) }
     ensures stands { IfOk result (λ t. TurnStands arena.new t) }
 {
@@ -393,12 +428,11 @@ fn read_macro<'a>(
         looping: false,
         params: &params,
     };
-    let (ids, line, rest) = match read_block(alloc, arena, level - 1, &inside, line, rest) {
+    let (ids, line, rest) = match read_block(alloc, names, arena, level - 1, &inside, line, rest) {
         Ok(p) => p,
         Err(e) => return Err(e),
     };
-    let known = name.copy(alloc)?;
-    defined.push(known)?;
+    defined.push(alloc, name.as_str().as_bytes())?;
     let k = arena.add_item(ItemNode::Define(name, params, ids))?;
     Ok(ItemTurn::Item(k, line, rest))
 }
@@ -407,17 +441,18 @@ fn read_macro<'a>(
 #[cycle(items)]
 fn read_directive<'a>(
     alloc: Global,
+    names: &Names,
     arena: &mut Arena,
     level: u32,
     around: &Around<'_>,
-    defined: &mut Vec<Text>,
+    defined: &mut Names,
     text: &mut Vec<u8>,
     line: Option<usize>,
     at: usize,
-    word: Word,
+    word: Word<'a>,
     bs: &'a [u8],
 ) -> Result<ItemTurn<'a>, ReadError>
-    ensures gives { Gives (λ t. item_turn_of arena.new text.new.items (around_of defined.new.items around.now) t) result (directive_turn (below [] level) (around_of defined.old.items around.now) text.old.items line at (word_of word) bs.now) }
+    ensures gives { Gives (λ t. item_turn_of arena.new text.new.items (around_of defined.new around.now) t) result (directive_turn (below names.now level) (around_of defined.old around.now) text.old.items line at (word_of word.entry) bs.now) }
     ensures kept { OnOk result (Keeps arena.old arena.new) }
     ensures stands { IfOk result (λ t. TurnStands arena.new t) }
 {
@@ -425,7 +460,7 @@ fn read_directive<'a>(
         Word::Refused => Err(ReadError::Met(Fault::BadDirective(at))),
         Word::Else => read_stop(arena, around, defined, text, line, at, true, bs),
         Word::End => read_stop(arena, around, defined, text, line, at, false, bs),
-        Word::ElseIf => read_elseif(alloc, arena, level, around, defined, text, line, at, bs),
+        Word::ElseIf => read_elseif(alloc, names, arena, level, around, defined, text, line, at, bs),
         Word::Break => {
             if !around.looping {
                 return Err(ReadError::Met(Fault::BadDirective(at)));
@@ -439,13 +474,13 @@ fn read_directive<'a>(
             let (line, rest) = end_directive(line, text, bs);
             Ok(ItemTurn::Item(k, line, rest))
         }
-        Word::Set => read_set(alloc, arena, level, around, defined, text, line, at, bs),
-        Word::If => match read_if(alloc, arena, level, around, defined, text, line, at, bs) {
+        Word::Set => read_set(alloc, names, arena, level, around, defined, text, line, at, bs),
+        Word::If => match read_if(alloc, names, arena, level, around, defined, text, line, at, bs) {
             Ok(turn) => Ok(turn),
             Err(e) => Err(closed_at(at, e)),
         },
         Word::ForEach => match read_foreach(
-            alloc, arena, level, around, defined, text, line, at, bs,
+            alloc, names, arena, level, around, defined, text, line, at, bs,
         ) {
             Ok(turn) => Ok(turn),
             Err(e) => Err(closed_at(at, e)),
@@ -454,11 +489,14 @@ fn read_directive<'a>(
             if around.place != Place::Top {
                 return Err(ReadError::Met(Fault::BadDirective(at)));
             }
-            match read_macro(alloc, arena, level, around, defined, text, line, at, bs) {
+            match read_macro(alloc, names, arena, level, around, defined, text, line, at, bs) {
                 Ok(turn) => Ok(turn),
                 Err(e) => Err(closed_at(at, e)),
             }
         }
+        Word::Macro(name) => read_macro_call(
+            alloc, names, arena, level, around, defined, text, at, name, bs,
+        ),
     }
 }
 
@@ -466,16 +504,17 @@ fn read_directive<'a>(
 #[cycle(items)]
 fn read_item<'a>(
     alloc: Global,
+    names: &Names,
     arena: &mut Arena,
     level: u32,
     around: &Around<'_>,
-    defined: &mut Vec<Text>,
+    defined: &mut Names,
     text: &mut Vec<u8>,
     line: Option<usize>,
     front: Front<'a>,
     bs: &'a [u8],
 ) -> Result<ItemTurn<'a>, ReadError>
-    ensures gives { Gives (λ t. item_turn_of arena.new text.new.items (around_of defined.new.items around.now) t) result (item_at_spec (below [] level) (around_of defined.old.items around.now) text.old.items line bs.now (front_view front.entry)) }
+    ensures gives { Gives (λ t. item_turn_of arena.new text.new.items (around_of defined.new around.now) t) result (item_at_spec (below names.now level) (around_of defined.old around.now) text.old.items line bs.now (front_view front.entry)) }
     ensures kept { OnOk result (Keeps arena.old arena.new) }
     ensures stands { IfOk result (λ t. TurnStands arena.new t) }
 {
@@ -493,7 +532,7 @@ fn read_item<'a>(
             name,
             rest,
         } => read_output(
-            alloc, arena, level, around, defined, text, bs, quiet, braced, name, rest,
+            alloc, names, arena, level, around, defined, text, bs, quiet, braced, name, rest,
         ),
         Front::LineComment(rest) => {
             let k = arena.add_item(ItemNode::Comment)?;
@@ -505,8 +544,7 @@ fn read_item<'a>(
             Ok(ItemTurn::Item(k, None, rest))
         }
         Front::Directive(word, rest) => read_directive(
-            alloc,
-            arena,
+            alloc, names, arena,
             level,
             around,
             defined,
@@ -523,26 +561,27 @@ fn read_item<'a>(
 #[cycle(items)]
 fn read_turn<'a>(
     alloc: Global,
+    names: &Names,
     arena: &mut Arena,
     level: u32,
     around: &Around<'_>,
-    defined: &mut Vec<Text>,
+    defined: &mut Names,
     text: &mut Vec<u8>,
     line: Option<usize>,
     bs: &'a [u8],
 ) -> Result<ItemTurn<'a>, ReadError>
     requires line { IsFresh line }
     requires text { text.old.items ≡ [] }
-    ensures gives { Gives (λ t. item_turn_of arena.new text.new.items (around_of defined.new.items around.now) t) result (item_turn_spec (below [] level) (around_of defined.old.items around.now, (line, bs.now))) }
+    ensures gives { Gives (λ t. item_turn_of arena.new text.new.items (around_of defined.new around.now) t) result (item_turn_spec (below names.now level) (around_of defined.old around.now, (line, bs.now))) }
     ensures kept { OnOk result (Keeps arena.old arena.new) }
     ensures stands { IfOk result (λ t. TurnStands arena.new t) }
 {
-    let (line, rest, front) = match text_run(text, line, bs) {
+    let (line, rest, front) = match text_run(names, text, line, bs) {
         Ok(p) => p,
         Err(e) => return Err(e),
     };
     read_item(
-        alloc, arena, level, around, defined, text, line, front, rest,
+        alloc, names, arena, level, around, defined, text, line, front, rest,
     )
 }
 
@@ -550,6 +589,7 @@ fn read_turn<'a>(
 #[cycle(items)]
 pub fn read_items<'a>(
     alloc: Global,
+    names: &Names,
     arena: &mut Arena,
     level: u32,
     around: &Around<'_>,
@@ -557,13 +597,13 @@ pub fn read_items<'a>(
     bs: &'a [u8],
 ) -> Result<(Vec<usize>, Stop<'a>), ReadError>
     requires line { IsFresh start }
-    ensures gives { Gives (λ p. (items_made (item_of arena.new) p.0.items, stop_of arena.new p.1)) result (items_spec (below [] level) (around_of [] around.now) (start, bs.now)) }
+    ensures gives { Gives (λ p. (items_made (item_of arena.new) p.0.items, stop_of arena.new p.1)) result (items_spec (below names.now level) (around_of [] around.now) (start, bs.now)) }
     ensures kept { OnOk result (Keeps arena.old arena.new) }
     ensures below { IfOk result (λ p. AllBelow (length arena.new.items) p.0.items) }
     ensures stop { IfOk result (λ p. StopStands arena.new p.1) }
 {
     let mut ids = Vec::new(alloc);
-    let mut defined = Vec::new(alloc);
+    let mut defined = Names::new(alloc);
     let mut line = start;
     let mut rest = bs;
     let mut fuel = bs.len() + 1;
@@ -571,8 +611,7 @@ pub fn read_items<'a>(
         fuel -= 1;
         let mut text = Vec::new(alloc);
         let turn = match read_turn(
-            alloc,
-            arena,
+            alloc, names, arena,
             level,
             around,
             &mut defined,

@@ -1,5 +1,6 @@
 // Expressions and items, by number: the parts of a node have lesser numbers.
 use gw_base::Text;
+use vtl_words::names::Names;
 use vtl_words::operators::Operator;
 
 /// A binary operator and the operand behind it.
@@ -85,5 +86,7 @@ pub enum ItemNode {
     Break,
     Stop,
     /// A macro's name, its parameters and its body.
-    Define(Text, Vec<Text>, Vec<usize>),
+    Define(Text, Names, Vec<usize>),
+    /// A macro's call: how many bytes stand from its `#` to the end of the text, its name, and its arguments.
+    MacroCall(usize, Text, Vec<usize>),
 }

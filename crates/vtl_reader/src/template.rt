@@ -1,22 +1,26 @@
 ghost use Rattle.std.specs.Prelude.{◌≡◌, ◌≢◌, ◌<◌, ◌↔◌, ℕ, List, [], length, Ok, Err, IfOk, OnOk, IfErr, IsOk, IsErrOf, MatchResult};
 ghost use Rattle.vtl_grammar.specs.Tree.{Items};
 ghost use Rattle.vtl_grammar.specs.Grammar.{IsTemplate};
-ghost use Rattle.vtl_grammar.specs.Templates.{limit, read_of, tree_of, whole};
+ghost use Rattle.vtl_grammar.specs.Calls.{macros_in};
+ghost use Rattle.vtl_grammar.specs.Templates.{limit, read_of, tree_of, whole, read_all as read_all_of};
 ghost use Rattle.vtl_grammar.specs.Uses.{is_simple, is_plain};
 ghost use Rattle.vtl_reader.specs.Read.{are_members as are_members_of, is_simple_node as is_simple_node_of, is_plain_node as is_plain_node_of, is_body as is_body_of};
 ghost use Rattle.vtl_reader.specs.Nodes.{item_of, items_made, AllBelow};
+ghost use Rattle.vtl_reader.specs.Macros.{macros_by};
 ghost use Rattle.vtl_reader.specs.Views.{Gives};
 
 use crate::arena::Arena;
 use crate::blocks::{Around, Place};
 use crate::error::{ReadError, placed};
 use crate::items::read_items;
+use crate::macros::{Macros, macros_of, wrong_calls};
 use crate::nodes::{ItemNode, Step};
 use gw_base::Text;
 use std::alloc::Global;
 use std::marker::Model;
-use vtl_grammar::TemplateFault;
-use vtl_words::macros::first_macro;
+use vtl_grammar::{Fault, TemplateFault};
+use vtl_words::macros::macro_names;
+use vtl_words::names::Names;
 
 /// The most bytes that a template may have.
 pub const LIMIT: usize = 307_200;
@@ -29,6 +33,7 @@ const LEVELS: u32 = 64;
 pub struct Template {
     source: Text,
     arena: Arena,
+    macros: Macros,
     items: Vec<usize>,
 }
 
@@ -40,23 +45,47 @@ impl Model for Template {
 
     ghost view = { λ t. t.source };
 
-    ghost invariant = { λ t. IsRead t.source t.arena t.items.items };
+    ghost invariant = { λ t. IsRead t.source t.arena t.macros t.items.items };
 }
 
-// The items of a whole text, in which no macro is defined, or its first fault.
-fn read_whole(alloc: Global, bytes: &[u8]) -> Result<(Arena, Vec<usize>), ReadError>
-    ensures gives { Gives (λ p. items_made (item_of p.0) p.1.items) result (whole [] 64 bytes.now) }
+// The items of a whole text whose macros have these names, or its first fault.
+fn read_whole(
+    alloc: Global,
+    names: &Names,
+    bytes: &[u8],
+) -> Result<(Arena, Vec<usize>), ReadError>
+    ensures gives { Gives (λ p. items_made (item_of p.0) p.1.items) result (whole names.now 64 bytes.now) }
     ensures below { IfOk result (λ p. AllBelow (length p.0.items) p.1.items) }
 {
     let mut arena = Arena::new(alloc);
+    let params = Names::new(alloc);
     let around = Around {
         place: Place::Top,
         looping: false,
-        params: &[],
+        params: &params,
     };
-    match read_items(alloc, &mut arena, LEVELS, &around, Some(0), bytes) {
+    match read_items(alloc, names, &mut arena, LEVELS, &around, Some(0), bytes) {
         Ok((items, _)) => Ok((arena, items)),
         Err(e) => Err(e),
+    }
+}
+
+// The nodes of a text, its macros and the numbers of its items, or its first fault; calls are tested behind all else.
+fn read_all(alloc: Global, bytes: &[u8]) -> Result<(Arena, Macros, Vec<usize>), ReadError>
+    ensures gives { Gives (λ p. items_made (item_of p.0) p.2.items) result (read_all_of bytes.now) }
+    ensures below { IfOk result (λ p. AllBelow (length p.0.items) p.2.items) }
+    ensures macros { IfOk result (λ p. (x : List ℕ) → macros_by p.0 p.1 x ≡ macros_in (items_made (item_of p.0) p.2.items) x) }
+    ensures defined { IfOk result (λ p. AllBelow (length p.0.items) p.1.ids) }
+{
+    let names = macro_names(alloc, bytes)?;
+    let (arena, items) = match read_whole(alloc, &names, bytes) {
+        Ok(p) => p,
+        Err(e) => return Err(e),
+    };
+    let macros = macros_of(alloc, &arena, &items)?;
+    match wrong_calls(&arena, &macros, arena.item_count(), &items) {
+        Some(left) => Err(ReadError::Met(Fault::BadDirective(left))),
+        None => Ok((arena, macros, items)),
     }
 }
 
@@ -82,7 +111,8 @@ fn is_simple_node(node: &ItemNode) -> bool
         | ItemNode::ForEach(_, _, _)
         | ItemNode::Break
         | ItemNode::Stop
-        | ItemNode::Define(_, _, _) => false,
+        | ItemNode::Define(_, _, _)
+        | ItemNode::MacroCall(_, _, _) => false,
     }
 }
 
@@ -99,7 +129,8 @@ fn is_plain_node(node: &ItemNode) -> bool
         | ItemNode::ForEach(_, _, _)
         | ItemNode::Break
         | ItemNode::Stop
-        | ItemNode::Define(_, _, _) => false,
+        | ItemNode::Define(_, _, _)
+        | ItemNode::MacroCall(_, _, _) => false,
     }
 }
 
@@ -144,12 +175,12 @@ fn are_plain(arena: &Arena, items: &[usize]) -> bool
 }
 
 impl Template {
-    /// Reads a template, in time linear in the length of the text.
+    /// Reads a template, in time linear in the length of the text, but for the logarithm by which macros are found.
     ///
     /// # Errors
     ///
-    /// The first fault of the text, as [`TemplateFault`] says: [`TemplateFault::TooLong`] before all else, then
-    /// [`TemplateFault::NotBuilt`] where a macro is defined. [`TemplateFault::Memory`] where there is no memory.
+    /// The first fault of the text, as [`TemplateFault`] says: [`TemplateFault::TooLong`] before all else, and calls
+    /// of macros that are wrong behind all else. [`TemplateFault::Memory`] where there is no memory.
     #[tactic(auto, unfolding(vtl_grammar::specs::Templates::read_of, vtl_grammar::specs::Templates::limit))]
     pub fn read(alloc: Global, text: &str) -> Result<Self, TemplateFault>
         ensures source { IfOk result (λ template. template ≡ text.now) }
@@ -166,10 +197,7 @@ impl Template {
         if text.len() > LIMIT {
             return Err(TemplateFault::TooLong);
         }
-        if let Some(left) = first_macro(text.as_bytes()) {
-            return Err(TemplateFault::NotBuilt(text.len().saturating_sub(left)));
-        }
-        let (arena, items) = match read_whole(alloc, text.as_bytes()) {
+        let (arena, macros, items) = match read_all(alloc, text.as_bytes()) {
             Ok(p) => p,
             Err(ReadError::Memory) => return Err(TemplateFault::Memory),
             Err(ReadError::Met(fault)) => return Err(placed(text.len(), fault)),
@@ -178,6 +206,7 @@ impl Template {
         Ok(Template {
             source,
             arena,
+            macros,
             items,
         })
     }
@@ -195,6 +224,16 @@ impl Template {
         ensures below { AllBelow (length result.0.now.items) result.1.now }
     {
         (&self.arena, self.items.as_slice())
+    }
+
+    /// The nodes of the template, its macros, and the numbers of its items.
+    pub fn parts_with_macros(&self) -> (&Arena, &Macros, &[usize])
+        ensures tree { items_made (item_of result.0.now) result.2.now ≡ tree_of self.now }
+        ensures macros { (x : List ℕ) → macros_by result.0.now result.1.now x ≡ macros_in (tree_of self.now) x }
+        ensures below { AllBelow (length result.0.now.items) result.2.now }
+        ensures defined { AllBelow (length result.0.now.items) result.1.now.ids }
+    {
+        (&self.arena, &self.macros, self.items.as_slice())
     }
 
     /// Whether it is only text and references without calls and indexes.

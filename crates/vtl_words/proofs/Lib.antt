@@ -3,3 +3,4 @@ pub mod Decimals
 pub mod Finds
 pub mod Scanning
 pub mod TextRuns
+pub mod Named

@@ -13,15 +13,15 @@ byte_view piece.Byte e = refl
 byte_view (piece.Reference quiet braced name rest) e = absurd (cc)
 byte_view (piece.Bad f) e = absurd (cc)
 
-pub one_more : (t : List ℕ) (n : ℕ) (p : Piece) → n < length t → piece_view p ≡ piece_of [] (take (length t - n) (drop n t)) → true ≡ is_byte p → run_len [] t ≡ n + run_len [] (drop n t) → run_len [] t ≡ n + 1 + run_len [] (drop (n + 1) t)
-one_more t n p h e byte so_far = go (drop n t) refl (left_over n t h) so_far
+pub one_more : (names : List (List ℕ)) (t : List ℕ) (n : ℕ) (p : Piece) → n < length t → piece_view p ≡ piece_of names (take (length t - n) (drop n t)) → true ≡ is_byte p → run_len names t ≡ n + run_len names (drop n t) → run_len names t ≡ n + 1 + run_len names (drop (n + 1) t)
+one_more names t n p h e byte so_far = go (drop n t) refl (left_over n t h) so_far
   where
-    go : (here : List ℕ) → drop n t ≡ here → 0 < length here → run_len [] t ≡ n + run_len [] here → run_len [] t ≡ n + 1 + run_len [] (drop (n + 1) t)
+    go : (here : List ℕ) → drop n t ≡ here → 0 < length here → run_len names t ≡ n + run_len names here → run_len names t ≡ n + 1 + run_len names (drop (n + 1) t)
     go [] at some f = absurd (omega (arith, some))
     go (b ∷ bs) at some f =
-        let plain : piece_of [] (b ∷ bs) ≡ string.piece_byte = ap (piece_of []) (sym at) ∙ ap (piece_of []) (sym (to_end n t)) ∙ sym e ∙ byte_view p byte in
-        let more : run_len [] (b ∷ bs) ≡ suc (run_len [] bs) = ap (run_on (run_len [] bs)) plain in
+        let plain : piece_of names (b ∷ bs) ≡ string.piece_byte = ap (piece_of names) (sym at) ∙ ap (piece_of names) (sym (to_end n t)) ∙ sym e ∙ byte_view p byte in
+        let more : run_len names (b ∷ bs) ≡ suc (run_len names bs) = ap (run_on (run_len names bs)) plain in
         let one : n + 1 ≡ suc n = omega arith in
         let behind : drop (n + 1) t ≡ bs = ap (λ k. drop k t) one ∙ (take_next n t b bs at).1 in
-        let rest : run_len [] (drop (n + 1) t) ≡ run_len [] bs = ap (run_len []) behind in
+        let rest : run_len names (drop (n + 1) t) ≡ run_len names bs = ap (run_len names) behind in
         omega (arith, f, more, rest)

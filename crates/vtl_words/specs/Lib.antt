@@ -4,3 +4,5 @@ pub mod Views
 pub mod Fronts
 -- what the scan for macros meets
 pub mod Scans
+-- names by their bytes
+pub mod Names

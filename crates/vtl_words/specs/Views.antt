@@ -8,6 +8,8 @@ use Rattle.vtl_grammar.specs.Words as says_word
 use Rattle.vtl_grammar.specs.Directives as says_left
 use Rattle.vtl_words.specs.declared.directives.Left.{Left}
 use Rattle.vtl_words.specs.declared.directives.Left.TheVariants as left
+use Rattle.vtl_words.specs.declared.directives.Between.{Between}
+use Rattle.vtl_words.specs.declared.directives.Between.TheVariants as between
 use Rattle.vtl_words.specs.declared.words.Word.{Word}
 use Rattle.vtl_words.specs.declared.words.Word.TheVariants as w
 use Rattle.vtl_words.specs.declared.operators.Operator.{Operator}
@@ -66,6 +68,7 @@ word_of w.Break = says_word.Break
 word_of w.Stop = says_word.Stop
 word_of w.Define = says_word.Define
 word_of w.Refused = says_word.Refused
+word_of (w.Macro x) = says_word.Macro x.now
 
 abbrev pub words_option : Option Word → Option says_word.Word
 words_option None = None
@@ -81,3 +84,9 @@ left_view left.Parameter = says_left.parameter
 left_view left.ContextPath = says_left.context_path
 left_view left.Refused = says_left.refused
 left_view left.Free = says_left.free_name
+
+abbrev pub between_view : Between → says_left.Between
+between_view (between.Close rest) = says_left.a_close rest.now
+between_view (between.Comma rest) = says_left.a_comma rest.now
+between_view between.Space = says_left.a_space
+between_view between.Nothing = says_left.nothing

@@ -1,11 +1,11 @@
 // The forms of directives, without their expressions.
 ghost use Rattle.std.specs.Prelude.{◌≡◌, MatchResult, Ok, Err};
-ghost use Rattle.vtl_grammar.specs.Bytes.{is_one_of as is_one_of_of, white as white_of, name_at as name_at_of};
-ghost use Rattle.vtl_grammar.specs.Directives.{form as form_of, form_name as form_name_of, bracket as bracket_of, is_root as is_root_of, goes_on as goes_on_of, left_of as left_of_spec, in_or, loop_variable as loop_variable_of, is_apart as is_apart_of};
-ghost use Rattle.vtl_words.specs.Views.{left_view, bad_form_at};
+ghost use Rattle.vtl_grammar.specs.Bytes.{white as white_of, name_at as name_at_of};
+ghost use Rattle.vtl_grammar.specs.Directives.{form as form_of, form_name as form_name_of, bracket as bracket_of, is_root as is_root_of, goes_on as goes_on_of, left_of as left_of_spec, in_or, loop_variable as loop_variable_of, is_apart as is_apart_of, between_of};
+ghost use Rattle.vtl_words.specs.Views.{left_view, between_view, bad_form_at};
 
 use crate::bytes::{blanks, is_white, name_at, white};
-use gw_base::Text;
+use crate::names::Names;
 use vtl_grammar::Fault;
 
 /// Whose name the left side of a `#set` is.
@@ -19,6 +19,37 @@ pub enum Left {
     Refused,
     /// Another name.
     Free,
+}
+
+/// What stands behind an argument of a macro's call.
+#[derive(Drop)]
+pub enum Between<'a> {
+    /// The closing bracket, and what follows it.
+    Close(&'a [u8]),
+    /// A comma, and what follows it.
+    Comma(&'a [u8]),
+    /// White space alone, behind which an argument stands.
+    Space,
+    /// What does not go on.
+    Nothing,
+}
+
+/// What stands here behind an argument, where white space stood before or not.
+pub fn behind_argument(apart: bool, bs: &[u8]) -> Between<'_>
+    ensures { between_view result ≡ between_of apart bs.now }
+{
+    match bs {
+        [] => Between::Nothing,
+        [b')', rest @ ..] => Between::Close(rest),
+        [b',', rest @ ..] => Between::Comma(rest),
+        _ => {
+            if apart {
+                Between::Space
+            } else {
+                Between::Nothing
+            }
+        }
+    }
 }
 
 /// The fault where the form of the directive at this place does not go on.
@@ -72,23 +103,11 @@ fn is_root(x: &[u8]) -> bool
         || x == b"stageVariables".as_slice()
 }
 
-/// Whether one of the names is this one.
-pub fn is_one_of(names: &[Text], x: &[u8]) -> bool
-    ensures { result ≡ is_one_of_of names.now x.now }
-{
-    for name in names {
-        if name.as_str().as_bytes() == x {
-            return true;
-        }
-    }
-    false
-}
-
 /// Whose name this is, where these are the parameters of the macro around.
-pub fn left_of(params: &[Text], x: &[u8]) -> Left
+pub fn left_of(params: &Names, x: &[u8]) -> Left
     ensures { left_view result ≡ left_of_spec params.now x.now }
 {
-    if is_one_of(params, x) {
+    if params.contains(x) {
         Left::Parameter
     } else if x == b"context".as_slice() {
         Left::ContextPath
@@ -138,7 +157,7 @@ fn in_word(at: usize, bs: &[u8]) -> Result<&[u8], Fault>
 /// What follows the `in` behind the loop variable x of the `#foreach` at this place.
 pub fn loop_variable<'a>(
     at: usize,
-    params: &[Text],
+    params: &Names,
     x: &[u8],
     bs: &'a [u8],
 ) -> Result<&'a [u8], Fault>
@@ -149,7 +168,7 @@ pub fn loop_variable<'a>(
         [b, ..] => {
             if !is_white(*b) {
                 Err(Fault::BadDirective(at))
-            } else if is_one_of(params, x) {
+            } else if params.contains(x) {
                 Err(Fault::ParamAssigned(x.len() + bs.len()))
             } else {
                 in_word(at, white(bs))

@@ -1,11 +1,12 @@
 // What stands at the front of a text, and at the front of a string's inside.
-ghost use Rattle.std.specs.Prelude.{◌≡◌, ◌≤◌, [], length};
+ghost use Rattle.std.specs.Prelude.{◌≡◌, ◌≤◌, length};
 ghost use Rattle.vtl_grammar.specs.Macros.{hash_at as hash_at_of};
 ghost use Rattle.vtl_grammar.specs.Strings.{escapes as escapes_of, piece_of, run_len as run_len_of};
 ghost use Rattle.vtl_grammar.specs.Fronts.{front_at as front_at_of, hash as hash_of};
 ghost use Rattle.vtl_words.specs.Fronts.{hash_view, front_view, piece_view, is_byte};
 
 use crate::bytes::{after, until_byte, until_word};
+use crate::names::Names;
 use crate::references::{Begun, begun_at};
 use crate::words::{Word, word_at};
 use vtl_grammar::Fault;
@@ -47,8 +48,8 @@ pub enum Front<'a> {
     LineComment(&'a [u8]),
     /// What follows a comment.
     LongComment(&'a [u8]),
-    /// A directive, and what follows its word.
-    Directive(Word, &'a [u8]),
+    /// A directive or a call, and what follows its word.
+    Directive(Word<'a>, &'a [u8]),
 }
 
 /// What stands at the front of a double-quoted string's inside.
@@ -93,8 +94,8 @@ pub fn escapes(bs: &[u8]) -> bool
 }
 
 // What a `#` before these bytes begins.
-fn front_behind_hash(bs: &[u8]) -> Front<'_>
-    ensures { front_view result ≡ hash_of [] (hash_at_of bs.now) }
+fn front_behind_hash<'a>(names: &Names, bs: &'a [u8]) -> Front<'a>
+    ensures { front_view result ≡ hash_of names.now (hash_at_of bs.now) }
 {
     let (hash, rest) = hash_at(bs);
     match hash {
@@ -110,17 +111,17 @@ fn front_behind_hash(bs: &[u8]) -> Front<'_>
             Some((raw, more)) => Front::Raw(raw, more),
             None => Front::Unclosed,
         },
-        Hash::Word => match word_at(rest) {
+        Hash::Word => match word_at(names, rest) {
             Some((word, more)) => Front::Directive(word, more),
             None => Front::Plain(b'#', rest),
         },
     }
 }
 
-/// What stands at the front of a text.
+/// What stands at the front of a text whose macros have these names.
 #[tactic(auto, unfolding(vtl_grammar::specs::Fronts::front_at))]
-pub fn front_at(bs: &[u8]) -> Front<'_>
-    ensures { front_view result ≡ front_at_of [] bs.now }
+pub fn front_at<'a>(names: &Names, bs: &'a [u8]) -> Front<'a>
+    ensures { front_view result ≡ front_at_of names.now bs.now }
 {
     match bs {
         [] => Front::Finish,
@@ -138,7 +139,7 @@ pub fn front_at(bs: &[u8]) -> Front<'_>
             },
             Begun::Nameless(_) => Front::Plain(b'$', rest),
         },
-        [b'#', rest @ ..] => front_behind_hash(rest),
+        [b'#', rest @ ..] => front_behind_hash(names, rest),
         [b, rest @ ..] => {
             if *b == b'\\' && escapes(rest) {
                 Front::Escape
@@ -150,8 +151,8 @@ pub fn front_at(bs: &[u8]) -> Front<'_>
 }
 
 /// What stands at the front of a double-quoted string's inside.
-pub fn piece_at(bs: &[u8]) -> Piece<'_>
-    ensures { piece_view result ≡ piece_of [] bs.now }
+pub fn piece_at<'a>(names: &Names, bs: &'a [u8]) -> Piece<'a>
+    ensures { piece_view result ≡ piece_of names.now bs.now }
 {
     match bs {
         [] => Piece::End,
@@ -172,7 +173,7 @@ pub fn piece_at(bs: &[u8]) -> Piece<'_>
         [b, rest @ ..] => {
             if *b == b'\\' && escapes(rest) {
                 Piece::Bad(Fault::Escape(bs.len()))
-            } else if *b == b'#' && word_at(rest).is_some() {
+            } else if *b == b'#' && word_at(names, rest).is_some() {
                 Piece::Bad(Fault::BadDirective(bs.len()))
             } else {
                 Piece::Byte
@@ -188,12 +189,12 @@ fn is_text(piece: &Piece<'_>) -> bool
 }
 
 /// How many bytes of text stand at the front of a double-quoted string's inside.
-pub fn run_len(bs: &[u8]) -> usize
-    ensures value { result ≡ run_len_of [] bs.now }
+pub fn run_len(names: &Names, bs: &[u8]) -> usize
+    ensures value { result ≡ run_len_of names.now bs.now }
     ensures within { result ≤ length bs.now }
 {
     let mut n = 0;
-    while n < bs.len() && is_text(&piece_at(&bs[n..])) {
+    while n < bs.len() && is_text(&piece_at(names, &bs[n..])) {
         n += 1;
     }
     n

@@ -1,10 +1,11 @@
 //! The words of templates: what stands at the front of a text, without expressions.
 //!
 //! Each function looks at the bytes from some place on and tells what stands there and what follows it, or the fault.
-//! A place is told by the number of bytes from it to the end of the text. Nothing is allocated.
+//! A place is told by the number of bytes from it to the end of the text. Nothing is allocated, but for [`names::Names`],
+//! in which names are found by text: those of a text's macros, which a scan finds before all else.
 //!
 //! ```text
-//! front_at(b"$!{a}b")          // Front::Reference { quiet: true, braced: true, name: b"a", rest: b"}b" }
+//! front_at(&names, b"$!{a}b")   // Front::Reference { quiet: true, braced: true, name: b"a", rest: b"}b" }
 //! next_operator(How::Alone, b" >= 2")   // Ok(Found::One(Operator::AtLeast, b" 2"))
 //! ```
 //!
@@ -18,6 +19,7 @@ pub mod leads;
 pub mod lines;
 pub mod macros;
 pub mod methods;
+pub mod names;
 pub mod numbers;
 pub mod operators;
 pub mod references;

@@ -23,8 +23,8 @@ decreases-read_links-loop-fuel l = l.fuel
 abbrev pub invariant-read_links-loop-fuel : goal.invariant-read_links-loop-fuel
 invariant-read_links-loop-fuel l = record {
   so_far :
-      links (ranked (operand [] (inside [] l.level)) (l.order - 1) (how_of l.how)) (how_of l.how) l.order l.fuel (chained (expr_of l.arena.exprs) (expr_of l.arena.exprs l.first) l.further.items) l.rest
-      ≡ links (ranked (operand [] (inside [] l.level)) (l.order - 1) (how_of l.how)) (how_of l.how) l.order (length l.bs + 1) (expr_of l.fn.arena.exprs l.first) l.bs;
+      links (ranked (operand l.names (inside l.names l.level)) (l.order - 1) (how_of l.how)) (how_of l.how) l.order l.fuel (chained (expr_of l.arena.exprs) (expr_of l.arena.exprs l.first) l.further.items) l.rest
+      ≡ links (ranked (operand l.names (inside l.names l.level)) (l.order - 1) (how_of l.how)) (how_of l.how) l.order (length l.bs + 1) (expr_of l.fn.arena.exprs l.first) l.bs;
   kept : Keeps l.fn.arena l.arena;
   below : LinksBelow (length l.arena.exprs) l.further.items;
 }
@@ -59,8 +59,8 @@ decreases-read_elements-loop-fuel l = l.fuel
 abbrev pub invariant-read_elements-loop-fuel : goal.invariant-read_elements-loop-fuel
 invariant-read_elements-loop-fuel l = record {
   so_far :
-      joined expr (map (expr_of l.arena.exprs) l.ids.items) (gather (first expr) (element_turn (reader [] (inside [] l.inner))) l.fuel l.rest)
-      ≡ elements (reader [] (inside [] l.inner)) (expr_of l.fn.arena.exprs l.first) l.bs;
+      joined expr (map (expr_of l.arena.exprs) l.ids.items) (gather (first expr) (element_turn (reader l.names (inside l.names l.inner))) l.fuel l.rest)
+      ≡ elements (reader l.names (inside l.names l.inner)) (expr_of l.fn.arena.exprs l.first) l.bs;
   kept : Keeps l.fn.arena l.arena;
   below : AllBelow (length l.arena.exprs) l.ids.items;
 }
@@ -86,8 +86,8 @@ decreases-read_pairs-loop-fuel l = l.fuel
 abbrev pub invariant-read_pairs-loop-fuel : goal.invariant-read_pairs-loop-fuel
 invariant-read_pairs-loop-fuel l = record {
   so_far :
-      joined with_pair (map (pair_made (expr_of l.arena.exprs)) l.pairs.items) (gather (first with_pair) (pair_turn (reader [] (inside [] l.inner))) l.fuel l.rest)
-      ≡ pairs (reader [] (inside [] l.inner)) (pair_made (expr_of l.fn.arena.exprs) l.fn.first) l.bs;
+      joined with_pair (map (pair_made (expr_of l.arena.exprs)) l.pairs.items) (gather (first with_pair) (pair_turn (reader l.names (inside l.names l.inner))) l.fuel l.rest)
+      ≡ pairs (reader l.names (inside l.names l.inner)) (pair_made (expr_of l.fn.arena.exprs) l.fn.first) l.bs;
   kept : Keeps l.fn.arena l.arena;
   below : PairsBelow (length l.arena.exprs) l.pairs.items;
 }
@@ -107,8 +107,8 @@ decreases-read_arguments-loop-fuel l = l.fuel
 abbrev pub invariant-read_arguments-loop-fuel : goal.invariant-read_arguments-loop-fuel
 invariant-read_arguments-loop-fuel l = record {
   so_far :
-      joined expr (map (expr_of l.arena.exprs) l.ids.items) (gather (first expr) (argument_turn (reader [] (inside [] l.inner)) l.at) l.fuel (record { few = l.needed; many = l.allowed; rest = l.rest }))
-      ≡ arguments_after (reader [] (inside [] l.inner)) l.at l.few l.many (expr_of l.fn.arena.exprs l.first) l.bs;
+      joined expr (map (expr_of l.arena.exprs) l.ids.items) (gather (first expr) (argument_turn (reader l.names (inside l.names l.inner)) l.at) l.fuel (record { few = l.needed; many = l.allowed; rest = l.rest }))
+      ≡ arguments_after (reader l.names (inside l.names l.inner)) l.at l.few l.many (expr_of l.fn.arena.exprs l.first) l.bs;
   kept : Keeps l.fn.arena l.arena;
   below : AllBelow (length l.arena.exprs) l.ids.items;
 }
@@ -131,8 +131,8 @@ decreases-read_steps-loop-fuel l = l.fuel
 abbrev pub invariant-read_steps-loop-fuel : goal.invariant-read_steps-loop-fuel
 invariant-read_steps-loop-fuel l = record {
   so_far :
-      joined step (map (step_made (expr_of l.arena.exprs)) l.steps.items) (gather (first step) (step_turn (inside [] l.level) (dots_view l.dots)) l.fuel l.rest)
-      ≡ gather (first step) (step_turn (inside [] l.level) (dots_view l.dots)) (length l.bs + 1) l.bs;
+      joined step (map (step_made (expr_of l.arena.exprs)) l.steps.items) (gather (first step) (step_turn (inside l.names l.level) (dots_view l.dots)) l.fuel l.rest)
+      ≡ gather (first step) (step_turn (inside l.names l.level) (dots_view l.dots)) (length l.bs + 1) l.bs;
   kept : Keeps l.fn.arena l.arena;
   below : StepsBelow (length l.arena.exprs) l.steps.items;
 }
@@ -155,8 +155,8 @@ decreases-read_parts-loop-fuel l = l.fuel
 abbrev pub invariant-read_parts-loop-fuel : goal.invariant-read_parts-loop-fuel
 invariant-read_parts-loop-fuel l = record {
   so_far :
-      joined part (map (part_made (expr_of l.arena.exprs)) l.parts.items) (gather (first part) (part_turn [] (inside [] l.level)) l.fuel l.rest)
-      ≡ gather (first part) (part_turn [] (inside [] l.level)) (length l.bs + 1) l.bs;
+      joined part (map (part_made (expr_of l.arena.exprs)) l.parts.items) (gather (first part) (part_turn l.names (inside l.names l.level)) l.fuel l.rest)
+      ≡ gather (first part) (part_turn l.names (inside l.names l.level)) (length l.bs + 1) l.bs;
   kept : Keeps l.fn.arena l.arena;
   below : PartsBelow (length l.arena.exprs) l.parts.items;
 }

@@ -46,8 +46,8 @@ decreases-read_branches-loop-fuel l = l.fuel
 abbrev pub invariant-read_branches-loop-fuel : goal.invariant-read_branches-loop-fuel
 invariant-read_branches-loop-fuel l = record {
   so_far :
-      joined with_branch (map (branch_made (expr_of l.arena.exprs) (item_of l.arena)) l.branches.items) (gather (first with_branch) (branch_turn (items (below [] l.level)) (around_of [] l.around)) l.fuel (expr_of l.arena.exprs l.condition, (l.line, l.rest)))
-      ≡ branches (items (below [] l.level)) (around_of [] l.around) l.most (expr_of l.fn.arena.exprs l.first, (l.fn.start, l.bs));
+      joined with_branch (map (branch_made (expr_of l.arena.exprs) (item_of l.arena)) l.branches.items) (gather (first with_branch) (branch_turn (items (below l.names l.level)) (around_of [] l.around)) l.fuel (expr_of l.arena.exprs l.condition, (l.line, l.rest)))
+      ≡ branches (items (below l.names l.level)) (around_of [] l.around) l.most (expr_of l.fn.arena.exprs l.first, (l.fn.start, l.bs));
   kept : Keeps l.fn.arena l.arena;
   below : BranchesBelow (length l.arena.exprs) (length l.arena.items) l.branches.items;
   stands : l.condition < length l.arena.exprs;
@@ -57,8 +57,8 @@ invariant-read_branches-loop-fuel l = record {
 abbrev pub invariant-read_items-loop-fuel : goal.invariant-read_items-loop-fuel
 invariant-read_items-loop-fuel l = record {
   so_far :
-      joined item (map (item_of l.arena) l.ids.items) (gather (first with_items) (item_turn (below [] l.level)) l.fuel (around_of l.defined.items l.around, (l.line, l.rest)))
-      ≡ items (below [] l.level) (around_of [] l.around) (l.fn.start, l.bs);
+      joined item (map (item_of l.arena) l.ids.items) (gather (first with_items) (item_turn (below l.names l.level)) l.fuel (around_of l.defined l.around, (l.line, l.rest)))
+      ≡ items (below l.names l.level) (around_of [] l.around) (l.fn.start, l.bs);
   kept : Keeps l.fn.arena l.arena;
   below : AllBelow (length l.arena.items) l.ids.items;
   fresh : IsFresh l.line;

@@ -20,9 +20,9 @@ returns-in-Err-Met-clause-only c = λ is t.
 pub returns-clause-found : goal.returns-clause-found
 unfolding read_of limit
 returns-clause-found c =
-    let good : read_of c.args.text.now ≡ Ok (items_made (item_of c.in-Ok.p.0) c.in-Ok.p.1.items) = search rules in
+    let good : read_of c.args.text.now ≡ Ok (items_made (item_of c.in-Ok.p.0) c.in-Ok.p.2.items) = search rules in
     let P : Result Items TemplateFault → Type 0 = λ r. IsTemplate c.args.text.now (items_or_none r) in
-    subst P (sym good) (sound.template_read c.args.text.now (items_made (item_of c.in-Ok.p.0) c.in-Ok.p.1.items) good)
+    subst P (sym good) (sound.template_read c.args.text.now (items_made (item_of c.in-Ok.p.0) c.in-Ok.p.2.items) good)
 
 pub returns-clause-only : goal.returns-clause-only
 returns-clause-only c = λ is t.

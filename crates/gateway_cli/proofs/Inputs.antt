@@ -38,3 +38,8 @@ on_err_map (Err e) P Q f h = f h
 pub on_err_of : {E : Type 0} (r : Result ℕ E) (P : Type 0) → P → OnErr r P
 on_err_of (Ok v) P h = tt
 on_err_of (Err e) P h = h
+
+pub on_err_of_longer : {E : Type 0} (n : ℕ) (left : Option (List ℕ)) (r : Result ℕ E) (Q : List ℕ → Type 0) → IfSome left (λ told. n < length told)
+    → ((input : List ℕ) → n < length input → OnErr r (Q input)) → OnErr r (OfTold left Q)
+on_err_of_longer n left (Ok status) Q h f = tt
+on_err_of_longer n left (Err e) Q h f = of_longer n left Q h f

@@ -2,6 +2,7 @@ pub mod Asked
 pub mod Inputs
 pub mod Lines
 pub mod Numbers
-pub mod Outcomes
+pub mod ByWords
 pub mod Playing
 pub mod Scripts
+mod OneOutcome

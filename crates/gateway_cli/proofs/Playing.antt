@@ -19,6 +19,10 @@ nothing_front limits number history (line ∷ lines) = inl refl
 pub says_nothing : (a : Option (List ℕ)) (Front : List ℕ → Type 0) → Front [] → SaysFront a a Front
 says_nothing a Front none = ([], none, Appends-nil a)
 
+-- nothing was written
+pub nothing : (a : Option (List ℕ)) (text : List ℕ) → AppendsFront a a text
+nothing a text = (text, ([], refl, Appends-nil a))
+
 -- what was written of a text is a front of it
 pub says_front : (a b : Option (List ℕ)) (text : List ℕ) → AppendsFront a b text → SaysFront a b (λ front. IsFront front text)
 says_front a b text h = (h.1.0, (h.0, sym h.1.1), h.1.2)
@@ -68,6 +72,10 @@ module _ (limits : Limits) (all : List (List ℕ)) (a b c : Option (List ℕ)) (
         (p.fronts (text ++ front) (inr (record { history = after; text = text; ends = None }, turn, inr (front, plays, refl))));
   }
 
+-- the lines of what is left, where it is known what is left
+pub then_left : (left : List (List ℕ)) (line : List ℕ) (more known : Option (Bor (List ℕ))) → left ≡ line ∷ lines_left more → more ≡ known → left ≡ line ∷ lines_left known
+then_left left line more known first is = first ∙ ap (λ o. line ∷ lines_left o) is
+
 -- no line is left
 pub finished : (limits : Limits) (all : List (List ℕ)) (a b : Option (List ℕ)) (number : ℕ) (history : List Entry) → Playing limits all a b number history []
     → (text : List ℕ) × Plays limits 1 [] all (record { text = text; status = 0 }) × Appends a b text
@@ -76,3 +84,30 @@ finished limits all a b number history p = (
   p.goes (record { text = []; status = 0 }) refl,
   subst (Appends a b) (sym (append-nil p.so_far)) p.wrote,
 )
+
+-- the same where the book tells the limits, and the lines are those of what is left
+
+module _ (limits told : Limits) (same : told ≡ limits) (all : List (List ℕ)) (a b c : Option (List ℕ)) (number : ℕ) (history : List Entry) (line : List ℕ) (left lines : List (List ℕ)) (first : left ≡ line ∷ lines) (p : Playing limits all a b number history left) where
+  at_line : Playing limits all a b number history (line ∷ lines)
+  at_line = subst (Playing limits all a b number history) first p
+
+  pub cut_short_at : SaysFront b c (λ front. (front ≡ []) ⊎ ((now : Turn) × IsTurn told number history line now × IsFront front now.text)) → SaysFront a c (PlaysFront limits 1 [] all)
+  cut_short_at says =
+      cut_short limits all a b c number history line lines at_line
+      (subst (λ (l : Limits). SaysFront b c (λ front. (front ≡ []) ⊎ ((now : Turn) × IsTurn l number history line now × IsFront front now.text))) same says)
+
+  pub stopped_at : (after : List Entry) (ends : Option End) (end : End) → ends ≡ Some end
+      → (text : List ℕ) × IsTurn told number history line (record { history = after; text = text; ends = ends }) × Appends b c text
+      → (all_text : List ℕ) × Plays limits 1 [] all (record { text = all_text; status = status_at end }) × Appends a c all_text
+  stopped_at after ends end is (text, turn, wrote) =
+      stopped limits all a b c number history line lines text after end at_line wrote
+      (subst (λ (l : Limits). IsTurn l number history line (record { history = after; text = text; ends = Some end })) same
+      (subst (λ o. IsTurn told number history line (record { history = after; text = text; ends = o })) is turn))
+
+  pub said_at : (after : List Entry) (ends : Option End) → ends ≡ None
+      → (text : List ℕ) × IsTurn told number history line (record { history = after; text = text; ends = ends }) × Appends b c text
+      → Playing limits all a c (number + 1) after lines
+  said_at after ends is (text, turn, wrote) =
+      said limits all a b c number history line lines text after at_line wrote
+      (subst (λ (l : Limits). IsTurn l number history line (record { history = after; text = text; ends = None })) same
+      (subst (λ o. IsTurn told number history line (record { history = after; text = text; ends = o })) is turn))

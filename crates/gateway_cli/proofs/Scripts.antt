@@ -1,6 +1,7 @@
 -- Scripts over their limit, and within it.
-use Rattle.gateway_cli.proofs.Playing.{nothing_front}
-use Rattle.std.proofs.Common.{◌≡◌, ℕ, Bool, ◌<◌, ◌≤◌, ◌++◌, true, false, nat_lt, List, [], length, Option, refl, sym, ap, subst, arith}
+use Rattle.gateway_cli.proofs.Playing.{nothing_front, says_front}
+use Rattle.book_core.specs.declared.events.Limits.{Limits}
+use Rattle.std.proofs.Common.{◌≡◌, ℕ, Bool, ◌<◌, ◌≤◌, ◌++◌, true, false, nat_lt, List, [], length, Option, Result, Ok, Err, IfOk, OnOk, OnErr, refl, sym, ap, subst, arith}
 use Rattle.std.proofs.lemmas.Grind.{common_steps}
 use borrow.Author.Tests.{lt-ltb}
 use Rattle.std.specs.Io.KnownBytes.{Appends}
@@ -43,3 +44,28 @@ none_played script = go (nat_lt script_limit (length script))
     go : (b : Bool) → PlayedFrontBy b script []
     go true = (too_long.text, refl)
     go false = nothing_front session_limits 1 [] (lines_of script)
+
+-- a script within its limit was played
+pub plays_says : (script : List ℕ) (limits : Limits) (a b : Option (List ℕ)) (status : ℕ) → limits ≡ session_limits → length script ≤ 67108864
+    → (text : List ℕ) × Plays limits 1 [] (lines_of script) (record { text = text; status = status }) × Appends a b text → Says a b (Played script) status
+plays_says script limits a b status same h (text, plays, wrote) =
+    let output : Output = record { text = text; status = status } in
+    (output, within_limit script output h (subst (λ (l : Limits). Plays l 1 [] (lines_of script) output) same plays), (refl, wrote))
+
+pub plays_front : (script : List ℕ) (limits : Limits) (a b : Option (List ℕ)) → limits ≡ session_limits → length script ≤ 67108864
+    → SaysFront a b (PlaysFront limits 1 [] (lines_of script)) → SaysFront a b (PlayedFront script)
+plays_front script limits a b same h (text, plays, wrote) =
+    (text, front_within_limit script text h (subst (λ (l : Limits). PlaysFront l 1 [] (lines_of script) text) same plays), wrote)
+
+-- a script over its limit was refused
+pub says_too_long : {E : Type 0} (r : Result ℕ E) (script : List ℕ) (a b : Option (List ℕ)) → 67108864 < length script → IfOk r (λ s. s ≡ 1) → OnOk r (Appends a b too_long.text)
+    → IfOk r (Says a b (Played script))
+says_too_long (Ok s) script a b h is wrote = (too_long, over_limit script h, (is, wrote))
+says_too_long (Err e) script a b h is wrote = tt
+
+pub says_front_too_long : {E : Type 0} (r : Result ℕ E) (script : List ℕ) (a b : Option (List ℕ)) → 67108864 < length script → AppendsFront a b too_long.text
+    → OnErr r (SaysFront a b (PlayedFront script))
+says_front_too_long (Ok s) script a b h f = tt
+says_front_too_long (Err e) script a b h f =
+    let front = says_front a b too_long.text f in
+    (front.0, front_over_limit script front.0 h front.1, front.2)

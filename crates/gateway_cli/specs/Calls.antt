@@ -1,5 +1,5 @@
 -- The calls of a script: the bytes of a connection, the outcomes of its exchanges, and its lines.
-use Rattle.std.specs.Prelude.{◌≡◌, ◌≢◌, ◌⊎◌, ℕ, List, [], ◌∷◌, ◌++◌, length, codes, Option, Some, None, Result, Ok, Err}
+use Rattle.std.specs.Prelude.{◌≡◌, ◌≢◌, ◌⊎◌, ℕ, false, List, [], ◌∷◌, ◌++◌, length, codes, Option, Some, None, Result, Ok, Err}
 use Rattle.std.specs.Fmt.{decimal}
 use Rattle.std.specs.List.{concat}
 use Rattle.call_facts.specs.declared.request.WireReply.{WireReply}
@@ -12,11 +12,15 @@ use Rattle.gateway_cli.specs.Printed.{coded, line_feed, full_line}
 use Rattle.gateway_cli.specs.declared.turns.End.{End}
 use Rattle.gateway_cli.specs.declared.turns.End.TheVariants.{Full}
 
--- the bytes of a `post`
-unfoldable pub post_bytes : List ℕ → List ℕ → List ℕ → List ℕ
-post_bytes api stage body = concat (
-    codes "POST /" ∷ api ∷ codes "/" ∷ stage ∷ codes " HTTP/1.1\r\nhost: localhost\r\ncontent-length: "
-    ∷ decimal (length body) ∷ codes "\r\n\r\n" ∷ body ∷ [])
+-- the bytes of a `post`: its target, its fields and its body
+unfoldable pub post_target : List ℕ → List ℕ → List ℕ
+post_target api stage = concat (codes "POST /" ∷ api ∷ codes "/" ∷ stage ∷ [])
+
+unfoldable pub post_fields : ℕ → List ℕ
+post_fields size = concat (codes " HTTP/1.1\r\nhost: localhost\r\ncontent-length: " ∷ decimal size ∷ codes "\r\n\r\n" ∷ [])
+
+abbrev pub post_bytes : List ℕ → List ℕ → List ℕ → List ℕ
+post_bytes api stage body = post_target api stage ++ post_fields (length body) ++ body
 
 -- the bytes of one whole reply, with nothing behind it
 abbrev pub IsWhole : List ℕ → Type 0

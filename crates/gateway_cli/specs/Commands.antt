@@ -44,7 +44,7 @@ abbrev pub OutcomeBy : Bool → List (List ℕ) → List ℕ → Files → Outpu
 OutcomeBy true words input files output = Played input output
 OutcomeBy false words input files output = output ≡ render_or_usage files (render_names words)
 
-pub Outcome : List (List ℕ) → List ℕ → Files → Output → Type 0
+unfoldable pub Outcome : List (List ℕ) → List ℕ → Files → Output → Type 0
 Outcome words input files output = OutcomeBy (is_play words) words input files output
 
 -- and a front of it, where it is cut short
@@ -52,7 +52,7 @@ abbrev pub OutcomeFrontBy : Bool → List (List ℕ) → List ℕ → Files → 
 OutcomeFrontBy true words input files front = PlayedFront input front
 OutcomeFrontBy false words input files front = IsFront front (render_or_usage files (render_names words)).text
 
-pub OutcomeFront : List (List ℕ) → List ℕ → Files → List ℕ → Type 0
+unfoldable pub OutcomeFront : List (List ℕ) → List ℕ → Files → List ℕ → Type 0
 OutcomeFront words input files front = OutcomeFrontBy (is_play words) words input files front
 
 -- The outcome is one thing, and a front is one of it.

@@ -88,7 +88,7 @@ PassesOrDoes limits number history line true now = now ≡ record { history = hi
 PassesOrDoes limits number history line false now = DoesOrNot limits number history (record_in line) now
 
 -- what the line of this number does after this history
-pub IsTurn : Limits → ℕ → List Entry → List ℕ → Turn → Type 0
+abbrev pub IsTurn : Limits → ℕ → List Entry → List ℕ → Turn → Type 0
 IsTurn limits number history line now = PassesOrDoes limits number history line (is_passed_over line) now
 
 -- what is printed, and the status
@@ -150,7 +150,7 @@ PlayedBy true script output = output ≡ too_long
 PlayedBy false script output = Plays session_limits 1 [] (lines_of script) output
 
 -- what a script prints
-pub Played : List ℕ → Output → Type 0
+unfoldable pub Played : List ℕ → Output → Type 0
 Played script output = PlayedBy (nat_lt script_limit (length script)) script output
 
 abbrev pub PlayedFrontBy : Bool → List ℕ → List ℕ → Type 0
@@ -158,5 +158,5 @@ PlayedFrontBy true script front = IsFront front too_long.text
 PlayedFrontBy false script front = PlaysFront session_limits 1 [] (lines_of script) front
 
 -- a front of what a script prints, where it is cut short
-pub PlayedFront : List ℕ → List ℕ → Type 0
+unfoldable pub PlayedFront : List ℕ → List ℕ → Type 0
 PlayedFront script front = PlayedFrontBy (nat_lt script_limit (length script)) script front

@@ -2,6 +2,7 @@
 use Rattle.std.specs.Prelude.{ℕ, List, [], ◌∷◌, codes, Option, Some, None, Result, Ok, Err}
 use Rattle.std.specs.List.{concat}
 use Rattle.std.specs.Str.Lossy.{utf8_lossy}
+use Rattle.vtl_grammar.specs.Expanded.{expanded}
 use Rattle.vtl_grammar.specs.Templates.{read_of}
 use Rattle.vtl_grammar.specs.Tree.{Items}
 use Rattle.vtl_grammar.specs.Printed.{printed}
@@ -33,7 +34,7 @@ shown (Err met) = stopped met.0
 
 -- a template over a request with this body, where it is read
 abbrev pub read_over : Result Items TemplateFault → List ℕ → Output
-read_over (Ok items) body = shown (rendering budget (meanings_at (render_request body) render_facts) items [])
+read_over (Ok items) body = shown (rendering budget (meanings_at (render_request body) render_facts) (expanded items) [])
 read_over (Err fault) body = refused (printed fault)
 
 -- a template's bytes over a body's, unless either are over their limit

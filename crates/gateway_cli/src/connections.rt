@@ -1,7 +1,7 @@
 // The connections of a script: their bytes, and their lines.
 ghost use Rattle.std.specs.Prelude.{◌≡◌, IfOk};
 ghost use Rattle.book_core.specs.Rows.{no_rows};
-ghost use Rattle.gateway_cli.specs.Calls.{post_bytes as post_bytes_of, answer_line as answer_line_of, full_lines as full_lines_of, connection_lines as connection_lines_of, end_of as end_of_connection};
+ghost use Rattle.gateway_cli.specs.Calls.{post_target as post_target_of, post_fields as post_fields_of, post_bytes as post_bytes_of, answer_line as answer_line_of, full_lines as full_lines_of, connection_lines as connection_lines_of, end_of as end_of_connection};
 ghost use Rattle.gateway_cli.specs.Play.{IsTalk};
 
 use crate::joined::joined;
@@ -12,25 +12,37 @@ use gw_base::{Memory, Text};
 use play_connection::{Ended, Fullness, connect};
 use std::alloc::Global;
 
-/// The bytes of a `post`.
-#[tactic(auto, unfolding(crate::specs::Calls::post_bytes))]
-pub fn post_bytes(alloc: Global, api: &str, stage: &str, body: &str) -> Result<Text, Memory>
-    ensures { IfOk result (λ bytes. bytes ≡ post_bytes_of api.now stage.now body.now) }
+#[tactic(auto, unfolding(crate::specs::Calls::post_target))]
+fn post_target(alloc: Global, api: &str, stage: &str) -> Result<Text, Memory>
+    ensures { IfOk result (λ text. text ≡ post_target_of api.now stage.now) }
 {
-    let length = body.len().to_string(alloc)?;
+    joined(alloc, &["POST /", api, "/", stage])
+}
+
+#[tactic(auto, unfolding(crate::specs::Calls::post_fields))]
+fn post_fields(alloc: Global, length: usize) -> Result<Text, Memory>
+    ensures { IfOk result (λ text. text ≡ post_fields_of length) }
+{
+    let length = length.to_string(alloc)?;
     joined(
         alloc,
         &[
-            "POST /",
-            api,
-            "/",
-            stage,
             " HTTP/1.1\r\nhost: localhost\r\ncontent-length: ",
             length.as_str(),
             "\r\n\r\n",
-            body,
         ],
     )
+}
+
+/// The bytes of a `post`.
+pub fn post_bytes(alloc: Global, api: &str, stage: &str, body: &str) -> Result<Text, Memory>
+    ensures { IfOk result (λ bytes. bytes ≡ post_bytes_of api.now stage.now body.now) }
+{
+    let fields = post_fields(alloc, body.len())?;
+    let mut text = post_target(alloc, api, stage)?.into_inner();
+    text.push_str(fields.as_str())?;
+    text.push_str(body)?;
+    Ok(Text::of(text))
 }
 
 // All bytes that were written, where there are any.

@@ -65,6 +65,8 @@ pub use program::run;
 pub use shelf::MemOutside;
 
 #[cfg(test)]
+mod call_tests;
+#[cfg(test)]
 mod case_tests;
 #[cfg(test)]
 mod render_tests;

@@ -1,6 +1,7 @@
 // What the command `render` prints of its two files.
 ghost use Rattle.std.specs.Prelude.{◌≡◌, ◌<◌, [], true, Some, Ok, Err, IfOk};
 ghost use Rattle.vtl_eval.specs.Meaning.{rendering};
+ghost use Rattle.vtl_grammar.specs.Expanded.{expanded};
 ghost use Rattle.vtl_grammar.specs.Templates.{read_of, tree_of};
 ghost use Rattle.gateway_cli.specs.Play.{is_command_status};
 ghost use Rattle.gateway_cli.specs.Render.{refused as refused_of, stopped as stopped_of, shown as shown_of, read_over as read_over_of, judged as judged_of};
@@ -60,7 +61,7 @@ fn shown_at(
     facts: &CallFacts,
 ) -> Result<Shown, Memory>
     requires { facts.now.at < 4102444800000 }
-    ensures output { IfOk result (λ shown. shown_of (rendering budget (meanings_at request.now facts.now) (tree_of template.now) [])
+    ensures output { IfOk result (λ shown. shown_of (rendering budget (meanings_at request.now facts.now) (expanded (tree_of template.now)) [])
         ≡ record { text = shown.text; status = shown.status }) }
     ensures known { IfOk result (λ shown. is_command_status shown.status ≡ true) }
 {
@@ -79,7 +80,7 @@ fn shown_at(
 // Renders a template over a request with this body.
 #[tactic(auto, unfolding(crate::specs::Requests::render_facts))]
 fn shown_over(alloc: Global, template: &Template, body: &[u8]) -> Result<Shown, Memory>
-    ensures output { IfOk result (λ shown. shown_of (rendering budget (meanings_at (render_request_of body.now) render_facts_of) (tree_of template.now) [])
+    ensures output { IfOk result (λ shown. shown_of (rendering budget (meanings_at (render_request_of body.now) render_facts_of) (expanded (tree_of template.now)) [])
         ≡ record { text = shown.text; status = shown.status }) }
     ensures known { IfOk result (λ shown. is_command_status shown.status ≡ true) }
 {

@@ -45,7 +45,7 @@ fn repeated(alloc: Global, part: &str, times: usize) -> Result<String, Fail> {
     Ok(all)
 }
 
-const ROWS: [(&str, &str, &str, u8); 19] = [
+const ROWS: [(&str, &str, &str, u8); 20] = [
     ("", "", "", 0),
     ("Hi $input.body!", "Ann", "Hi Ann!", 0),
     ("#set($a=7/2)$a#set($b=7/0)$b", "", "3$b", 0),
@@ -70,7 +70,8 @@ const ROWS: [(&str, &str, &str, u8); 19] = [
     ),
     ("#if($a)", "", "refused Unclosed(0) at ~\n", 1),
     ("a\\$b", "", "refused Escape(1) at ~\n", 1),
-    ("#macro(m)x#end", "", "refused NotBuilt(0) at ~\n", 1),
+    ("#macro(m $p)$p#end#m('x')", "", "x", 0),
+    ("#macro(m)#m()#end#m()", "", "stop Depth\n", 1),
     (
         "$context.stage $context.path $context.requestId",
         "",

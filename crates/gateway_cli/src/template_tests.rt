@@ -91,8 +91,8 @@ const REFUSED: [(&str, &str); 73] = [
     ("$a.put(1)", "UnsupportedMethod(3)"),
     ("#if($a)", "Unclosed(0)"),
     ("a\\$b", "Escape(1)"),
-    ("#macro(m)x#end", "NotBuilt(0)"),
-    ("x#{macro}( m)", "NotBuilt(1)"),
+    ("#macro(m $p)#set($p=1)#end", "ParamAssigned(18)"),
+    ("#macro(m $p)$p#end#m()", "BadDirective(18)"),
     (
         "#set($a=\"##\")#macro(m $p)#set($p=1)#end",
         "ParamAssigned(31)",

@@ -78,8 +78,8 @@ const ROWS: [Row; 15] = [
     },
     Row {
         script: "text 0 t #macro(m)x#end\n",
-        said: "refused line 1 NotBuilt(0) at /text\n",
-        status: 1,
+        said: "done\n",
+        status: 0,
     },
     Row {
         script: "bogus 1\n",

@@ -1,2 +1,2 @@
 mod Going
-mod Once
+pub mod Once

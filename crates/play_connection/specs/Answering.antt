@@ -17,6 +17,7 @@ use Rattle.vtl_eval.specs.Meaning.{rendering}
 use Rattle.vtl_eval.specs.Roots.{Kept, Meanings}
 use Rattle.vtl_eval.specs.declared.stop.Rendered.{Rendered}
 use Rattle.vtl_eval.specs.declared.stop.Stop.{Stop}
+use Rattle.vtl_grammar.specs.Expanded.{expanded}
 use Rattle.vtl_grammar.specs.Templates.{tree_of}
 use Rattle.gateway_vars.specs.Target.{api_name, stage_name}
 
@@ -80,7 +81,7 @@ text_made (Err met) = gateway_made ApiConfigurationError
 -- to a whole message whose Enter was replied so
 abbrev pub made_by : Reply → Request → Made
 made_by (Entered view) r =
-    text_made (rendering budget (meanings_at r (facts_of (api_name r.target) (stage_name r.target) view)) (tree_of view.api.source) [])
+    text_made (rendering budget (meanings_at r (facts_of (api_name r.target) (stage_name r.target) view)) (expanded (tree_of view.api.source)) [])
 made_by reply r = gateway_made UnknownStage
 
 -- the size of a body is tested before its stage

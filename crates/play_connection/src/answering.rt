@@ -2,6 +2,7 @@
 ghost use Rattle.std.specs.Prelude.{◌≡◌, ◌≢◌, ◌<◌, [], Some, None, Ok, Err, IfOk};
 ghost use Rattle.book_core.specs.Times.{IsInTime};
 ghost use Rattle.vtl_eval.specs.Meaning.{rendering};
+ghost use Rattle.vtl_grammar.specs.Expanded.{expanded};
 ghost use Rattle.vtl_grammar.specs.Templates.{tree_of};
 ghost use Rattle.play_connection.specs.Answering.{Made as made_data, message_body as message_body_of, gateway_answer as gateway_answer_of, gateway_made as gateway_made_of, text_answer as text_answer_of, nothing_found as nothing_found_of, facts_of as facts_of_view, meanings_at, budget, text_made as text_made_of, made_by as made_by_reply, made_for as made_for_message};
 
@@ -121,7 +122,7 @@ fn text_made(
     facts: &CallFacts,
 ) -> Result<Made, Memory>
     requires { facts.now.at < 4102444800000 }
-    ensures { IfOk result (λ made. text_made_of (rendering budget (meanings_at request.now facts.now) (tree_of template.now) []) ≡ record { answer = made.answer; cause = made.cause }) }
+    ensures { IfOk result (λ made. text_made_of (rendering budget (meanings_at request.now facts.now) (expanded (tree_of template.now)) []) ≡ record { answer = made.answer; cause = made.cause }) }
 {
     let found = nothing_found(alloc);
     let mut roots = RequestRoots::new(alloc, request, &found, facts)?;

@@ -1,0 +1,25 @@
+use Rattle.std.proofs.Common.{[]}
+use Rattle.gateway_cli.specs.Play.{Played, PlayedFront}
+use Rattle.gateway_cli.specs.Top.{Says, SaysFront}
+use Rattle.gateway_cli.proofs.Inputs.{of_any, if_ok_of_longer, on_err_of_longer}
+use Rattle.gateway_cli.proofs.Playing.{says_nothing}
+use Rattle.gateway_cli.proofs.Scripts.{none_played}
+use Rattle.gateway_cli.proofs.program.play.Goals as goal
+
+pub returns-in-Err-TooLong-clause-answered : goal.returns-in-Err-TooLong-clause-answered
+returns-in-Err-TooLong-clause-answered g c =
+    if_ok_of_longer 67108864 (g.I.Source.left c.args.input.now) c.say_too_long.result
+    (λ script status. Says (g.W.Sink.written c.args.output.now) (g.W.Sink.written c.say_too_long.new.output) (Played script) status)
+    (c.in-Err-TooLong.ensures.too_long (cc c.in-Err-TooLong.field-0-is)) c.say_too_long.ensures.answered
+
+pub returns-in-Err-TooLong-clause-front : goal.returns-in-Err-TooLong-clause-front
+returns-in-Err-TooLong-clause-front g c =
+    on_err_of_longer 67108864 (g.I.Source.left c.args.input.now) c.say_too_long.result
+    (λ script. SaysFront (g.W.Sink.written c.args.output.now) (g.W.Sink.written c.say_too_long.new.output) (PlayedFront script))
+    (c.in-Err-TooLong.ensures.too_long (cc c.in-Err-TooLong.field-0-is)) c.say_too_long.ensures.front
+
+pub returns-in-Err-Fault-clause-front : goal.returns-in-Err-Fault-clause-front
+returns-in-Err-Fault-clause-front g c = of_any [] _ _ (λ script. says_nothing _ _ (none_played script))
+
+pub returns-in-Err-Memory-clause-front : goal.returns-in-Err-Memory-clause-front
+returns-in-Err-Memory-clause-front g c = of_any [] _ _ (λ script. says_nothing _ _ (none_played script))

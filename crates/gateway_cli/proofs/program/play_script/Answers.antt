@@ -1,0 +1,12 @@
+use Rattle.std.proofs.Common.{refl}
+use Rattle.gateway_cli.specs.Play.{session_limits}
+use Rattle.gateway_cli.proofs.Scripts.{plays_says, plays_front}
+use Rattle.gateway_cli.proofs.program.play_script.Goals as goal
+
+pub returns-in-Ok-clause-answered : goal.returns-in-Ok-clause-answered
+unfolding session_limits
+returns-in-Ok-clause-answered g c = plays_says c.args.script.now _ _ _ c.in-Ok.status refl c.requires c.in-Ok.ensures.all
+
+pub returns-in-Err-clause-front : goal.returns-in-Err-clause-front
+unfolding session_limits
+returns-in-Err-clause-front g c = plays_front c.args.script.now _ _ _ refl c.requires c.in-Err.ensures.front

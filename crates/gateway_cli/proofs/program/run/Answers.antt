@@ -1,0 +1,17 @@
+use Rattle.std.proofs.Common.{inl, inr}
+use Rattle.gateway_cli.proofs.Inputs.{of_each}
+use Rattle.gateway_cli.proofs.program.run.Goals as goal
+
+pub returns-in-Err-Input-clause-fault : goal.returns-in-Err-Input-clause-fault
+returns-in-Err-Input-clause-fault g c =
+    let rose = c.in-Err-Input.ensures.input (cc c.in-Err-Input.field-0-is) in
+    λ e. of_each (g.I.Source.left c.args.input.now) _ _
+    (λ script. of_each (g.O.Outside.files c.args.outside.now) _ _ (λ files front. inl (rose, (g.W.Sink.written c.respond.new.output, front, c.say_fault.ensures.front))))
+    c.in-Err-Input.ensures.front
+
+pub returns-in-Err-File-clause-fault : goal.returns-in-Err-File-clause-fault
+returns-in-Err-File-clause-fault g c =
+    let rose = c.in-Err-File.ensures.file (cc c.in-Err-File.field-0-is) in
+    λ e. of_each (g.I.Source.left c.args.input.now) _ _
+    (λ script. of_each (g.O.Outside.files c.args.outside.now) _ _ (λ files front. inr (inr (rose, (g.W.Sink.written c.respond.new.output, front, c.say_fault-in-Err-File.ensures.front)))))
+    c.in-Err-File.ensures.front

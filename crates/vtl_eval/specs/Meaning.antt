@@ -2,7 +2,6 @@
 use Rattle.std.specs.Prelude.{ℕ, suc, Bool, true, false, not, List, [], ◌∷◌, ◌++◌, length, if◌then◌else◌, Option, Some, None, Result, Ok, Err}
 use Rattle.vtl_grammar.specs.Tree as tree
 use Rattle.vtl_grammar.specs.Tree.{Operator, or_, and_, equal, unequal, less, greater, at_most, at_least, plus, minus, times, divided, remainder, Expr, Base, Step, Steps, Exprs, Pairs, Part, Parts, Target, Item, Items, Branches}
-use Rattle.vtl_grammar.specs.Expanded.{expanded}
 use Rattle.vtl_values.specs.Val.{Val, boolean, whole, text, string_bytes}
 use Rattle.vtl_values.specs.Truth.{is_null, is_true}
 use Rattle.vtl_values.specs.Printed.{printed}
@@ -268,6 +267,6 @@ abbrev pub finished : Outcome Ended → Result (Rendered × Kept) (Stop × Kept)
 finished (Ok r) = Ok (record { text = r.1.0.text; steps = r.1.0.nodes }, r.1.1)
 finished (Err e) = Err (stop_of e.0, e.1)
 
--- what a template of this tree renders to over these roots, where this was written before: the tree is expanded, and run
+-- what items render to over these roots, where this was written before
 unfoldable pub rendering : ℕ → Meanings → Items → Kept → Result (Rendered × Kept) (Stop × Kept)
-rendering budget m is kept = finished (run budget m (expanded is) (begin, kept))
+rendering budget m is kept = finished (run budget m is (begin, kept))

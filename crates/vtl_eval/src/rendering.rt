@@ -1,6 +1,7 @@
 // A template over roots.
 ghost use Rattle.std.specs.Prelude.{◌≡◌, ◌≢◌, Ok, Err, IfOk, IfErr};
 ghost use Rattle.vtl_grammar.specs.Templates.{tree_of};
+ghost use Rattle.vtl_grammar.specs.Expanded.{expanded};
 ghost use Rattle.vtl_eval.specs.Meaning.{rendering, stop_of};
 ghost use Rattle.vtl_eval.specs.Views.{scene_of};
 
@@ -39,8 +40,8 @@ pub fn render<R: Roots>(
 ) -> Result<Rendered, Stop>
     // The text, its cost, and what is written, as the tree without macros is run; or the limit that is met first, and
     // what is written before.
-    ensures made { IfOk result (λ r. rendering budget (R.meanings roots.old) (tree_of template.now) (R.kept roots.old) ≡ Ok (r, R.kept roots.new)) }
-    ensures stop { IfErr result (λ e. e ≢ Stop.Memory → rendering budget (R.meanings roots.old) (tree_of template.now) (R.kept roots.old) ≡ Err (e, R.kept roots.new)) }
+    ensures made { IfOk result (λ r. rendering budget (R.meanings roots.old) (expanded (tree_of template.now)) (R.kept roots.old) ≡ Ok (r, R.kept roots.new)) }
+    ensures stop { IfErr result (λ e. e ≢ Stop.Memory → rendering budget (R.meanings roots.old) (expanded (tree_of template.now)) (R.kept roots.old) ≡ Err (e, R.kept roots.new)) }
 
     // The roots mean what they meant.
     ensures meanings { R.meanings roots.new ≡ R.meanings roots.old }

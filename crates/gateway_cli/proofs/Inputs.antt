@@ -1,7 +1,5 @@
 -- What holds of what the outside tells, and of some value where it tells none.
 use Rattle.std.proofs.Common.{◌≡◌, ℕ, zero, suc, ◌<◌, List, [], ◌∷◌, length, cond, Option, Some, None, IfSome, IfOk, OnErr, Result, Ok, Err, refl, sym, ap, arith}
-use borrow.Author.Tests.{lt-ltb}
-use Rattle.gateway_cli.specs.Play.{played, played_within, script_limit, session_limits, too_long}
 use Rattle.gateway_cli.specs.Top.{OfTold}
 
 -- what holds of every value, of which there is one
@@ -40,7 +38,3 @@ on_err_map (Err e) P Q f h = f h
 pub on_err_of : {E : Type 0} (r : Result ℕ E) (P : Type 0) → P → OnErr r P
 on_err_of (Ok v) P h = tt
 on_err_of (Err e) P h = h
-
-pub over_limit : (script : List ℕ) → 67108864 < length script → too_long ≡ played script
-unfolding played script_limit
-over_limit script h = sym (ap (λ b. cond b too_long (played_within session_limits script)) (lt-ltb 67108864 (length script) h))

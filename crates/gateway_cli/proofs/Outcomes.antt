@@ -1,30 +1,36 @@
 -- What is printed of the words, by their command.
-use Rattle.std.proofs.Common.{◌≡◌, ℕ, true, false, List, [], cond, Option, Some, None, sym, ap, ◌∙◌, subst}
-use Rattle.gateway_cli.specs.Commands.{is_play, render_names, render_or_usage, usage, outcome}
+use Rattle.std.proofs.Common.{◌≡◌, ℕ, Bool, true, false, List, [], Option, Some, None, refl, sym, ap, ◌∙◌, subst}
+use Rattle.gateway_cli.specs.Commands.{is_play, render_names, render_or_usage, usage, OutcomeBy, Outcome, OutcomeFrontBy, OutcomeFront}
 use Rattle.gateway_cli.specs.Files.{Files}
-use Rattle.gateway_cli.specs.Play.{Output, played}
+use Rattle.gateway_cli.specs.Play.{Output, Played, PlayedFront, IsFront}
 use Rattle.gateway_cli.specs.Render.{render_of}
 use Rattle.gateway_cli.specs.Top.{OfTold}
 use Rattle.gateway_cli.proofs.Inputs.{of_any, of_each}
 
-module _ (left : Option (List ℕ)) (told : Option Files) (words : List (List ℕ)) (Q : Output → Type 0) where
-  -- it holds of what the words print, of the input and the files that are told
-  abbrev Whole : Type 0
-  Whole = OfTold left (λ script. OfTold told (λ files. Q (outcome words script files)))
+pub played_is : (words : List (List ℕ)) (script : List ℕ) (files : Files) (output : Output) → is_play words ≡ true → Played script output → Outcome words script files output
+unfolding Outcome
+played_is words script files output h p = subst (λ b. OutcomeBy b words script files output) (sym h) p
 
-  played_is : (script : List ℕ) (files : Files) → is_play words ≡ true → played script ≡ outcome words script files
-  unfolding outcome
-  played_is script files h = sym (ap (λ b. cond b (played script) (render_or_usage files (render_names words))) h)
+pub front_is : (words : List (List ℕ)) (script : List ℕ) (files : Files) (front : List ℕ) → is_play words ≡ true → PlayedFront script front → OutcomeFront words script files front
+unfolding OutcomeFront
+front_is words script files front h p = subst (λ b. OutcomeFrontBy b words script files front) (sym h) p
 
-  other_is : (script : List ℕ) (files : Files) (names : Option (List ℕ × List ℕ)) → is_play words ≡ false → names ≡ render_names words → render_or_usage files names ≡ outcome words script files
-  unfolding outcome
-  other_is script files names h e = ap (render_or_usage files) e ∙ sym (ap (λ b. cond b (played script) (render_or_usage files (render_names words))) h)
+pub other_is : (words : List (List ℕ)) (script : List ℕ) (files : Files) (names : Option (List ℕ × List ℕ)) → is_play words ≡ false → names ≡ render_names words
+    → Outcome words script files (render_or_usage files names)
+unfolding Outcome
+other_is words script files names h e = subst (λ b. OutcomeBy b words script files (render_or_usage files names)) (sym h) (ap (render_or_usage files) e)
 
-  pub of_play : is_play words ≡ true → OfTold left (λ script. Q (played script)) → Whole
-  of_play h holds = of_each left _ _ (λ script q. of_any [] told _ (λ files. subst Q (played_is script files h) q)) holds
+pub other_front : (words : List (List ℕ)) (script : List ℕ) (files : Files) (names : Option (List ℕ × List ℕ)) (front : List ℕ) → is_play words ≡ false → names ≡ render_names words
+    → IsFront front (render_or_usage files names).text → OutcomeFront words script files front
+unfolding OutcomeFront
+other_front words script files names front h e is =
+    subst (λ b. OutcomeFrontBy b words script files front) (sym h) (subst (λ n. IsFront front (render_or_usage files n).text) e is)
 
-  pub of_render : (template body : List ℕ) → is_play words ≡ false → Some (template, body) ≡ render_names words → OfTold told (λ files. Q (render_of files template body)) → Whole
-  of_render template body h e holds = of_any [] left _ (λ script. of_each told _ _ (λ files q. subst Q (other_is script files (Some (template, body)) h e) q) holds)
-
-  pub of_usage : is_play words ≡ false → None ≡ render_names words → Q usage → Whole
-  of_usage h e q = of_any [] left _ (λ script. of_any [] told _ (λ files. subst Q (other_is script files None h e) q))
+-- nothing is a front of all
+pub none_is : (words : List (List ℕ)) (script : List ℕ) (files : Files) → ((s : List ℕ) → PlayedFront s []) → OutcomeFront words script files []
+unfolding OutcomeFront
+none_is words script files none = go (is_play words)
+  where
+    go : (b : Bool) → OutcomeFrontBy b words script files []
+    go true = none script
+    go false = ((render_or_usage files (render_names words)).text, refl)

@@ -1,5 +1,5 @@
 -- How a play goes on, line by line.
-use Rattle.std.proofs.Common.{◌≡◌, ℕ, ◌+◌, List, [], ◌∷◌, ◌++◌, Option, Some, None, refl, sym, ap, ◌∙◌, append_assoc, append-nil, subst}
+use Rattle.std.proofs.Common.{◌≡◌, ◌⊎◌, inl, inr, ℕ, ◌+◌, List, [], ◌∷◌, ◌++◌, Option, Some, None, refl, sym, ap, ◌∙◌, append_assoc, append-nil, subst}
 use Rattle.std.specs.Borrow.{Bor}
 use Rattle.std.specs.Io.KnownBytes.{Appends}
 use Rattle.std.proofs.KnownBytes.{Appends-nil, Appends-trans}
@@ -7,99 +7,72 @@ use Rattle.gw_base.specs.Whole.{AppendsFront}
 use Rattle.book_core.specs.declared.events.Entry.{Entry}
 use Rattle.book_core.specs.declared.events.Limits.{Limits}
 use Rattle.gateway_cli.specs.Coding.{lines_of, lines_left}
-use Rattle.gateway_cli.specs.Play.{Output, before, turn, play_from, unless_ended, status_at}
+use Rattle.gateway_cli.specs.Play.{Output, Turn, before, IsTurn, IsFront, Plays, PlaysFront, GoesOn, GoesOnInFront, status_at}
+use Rattle.gateway_cli.specs.Top.{SaysFront}
 use Rattle.gateway_cli.specs.declared.turns.End.{End}
 
--- So much was written, and behind it comes what the lines print: together that is all.
-pub record Playing (limits : Limits) (old now : Option (List ℕ)) (number : ℕ) (history : List Entry) (lines : List (List ℕ)) (all : Output) : Type 0 where
+-- nothing is a front of all
+pub nothing_front : (limits : Limits) (number : ℕ) (history : List Entry) (lines : List (List ℕ)) → PlaysFront limits number history lines []
+nothing_front limits number history [] = refl
+nothing_front limits number history (line ∷ lines) = inl refl
+
+pub says_nothing : (a : Option (List ℕ)) (Front : List ℕ → Type 0) → Front [] → SaysFront a a Front
+says_nothing a Front none = ([], none, Appends-nil a)
+
+-- what was written of a text is a front of it
+pub says_front : (a b : Option (List ℕ)) (text : List ℕ) → AppendsFront a b text → SaysFront a b (λ front. IsFront front text)
+says_front a b text h = (h.1.0, (h.0, sym h.1.1), h.1.2)
+
+-- So much was written, and behind it comes what the lines print: together that is what all lines print.
+pub record Playing (limits : Limits) (all : List (List ℕ)) (old now : Option (List ℕ)) (number : ℕ) (history : List Entry) (lines : List (List ℕ)) : Type 0 where
   pub so_far : List ℕ
   pub wrote : Appends old now so_far
-  pub rest : before so_far (play_from limits number history lines) ≡ all
+  pub goes : (rest : Output) → Plays limits number history lines rest → Plays limits 1 [] all (before so_far rest)
+  pub fronts : (front : List ℕ) → PlaysFront limits number history lines front → PlaysFront limits 1 [] all (so_far ++ front)
 
-pub begins : (limits : Limits) (a : Option (List ℕ)) (history : List Entry) (lines : List (List ℕ)) → history ≡ [] → Playing limits a a 1 history lines (play_from limits 1 [] lines)
-begins limits a history lines none = record { so_far = []; wrote = Appends-nil a; rest = ap (λ h. play_from limits 1 h lines) none }
+pub begins : (limits : Limits) (all : List (List ℕ)) (a : Option (List ℕ)) (history : List Entry) → history ≡ [] → Playing limits all a a 1 history all
+begins limits all a history none = subst (λ (h : List Entry). Playing limits all a a 1 h all) (sym none) (record { so_far = []; wrote = Appends-nil a; goes = λ rest plays. plays; fronts = λ front plays. plays })
 
--- the same where the book tells the limits
-pub begins_at : (limits told : Limits) (a : Option (List ℕ)) (history : List Entry) (lines : List (List ℕ)) → told ≡ limits → history ≡ [] → Playing told a a 1 history lines (play_from limits 1 [] lines)
-begins_at limits told a history lines same none =
-    subst (λ (l : Limits). Playing l a a 1 history lines (play_from limits 1 [] lines)) (sym same) (begins limits a history lines none)
+module _ (limits : Limits) (all : List (List ℕ)) (a b c : Option (List ℕ)) (number : ℕ) (history : List Entry) (line : List ℕ) (lines : List (List ℕ)) where
+  -- such a front of a line
+  abbrev CutShort : List ℕ → Type 0
+  CutShort front = (front ≡ []) ⊎ ((now : Turn) × IsTurn limits number history line now × IsFront front now.text)
 
-before_before : (a b : List ℕ) (out : Output) → before (a ++ b) out ≡ before a (before b out)
-before_before a b out = ap (λ t. record { text = t; status = out.status }) (append_assoc a b out.text)
-
--- nothing is a front of all
-pub nothing : (a : Option (List ℕ)) (text : List ℕ) → AppendsFront a a text
-nothing a text = (text, ([], refl, Appends-nil a))
-
--- all is a front
-pub all_is_front : (a b : Option (List ℕ)) (text : List ℕ) → Appends a b text → AppendsFront a b text
-all_is_front a b text h = ([], (text, sym (append-nil text), h))
-
-module _ (limits : Limits) (a b c : Option (List ℕ)) (number : ℕ) (history : List Entry) (line : List ℕ) (all_lines : List (List ℕ)) (all : Output) where
-  -- what this line leaves and prints
-  abbrev text : List ℕ
-  text = (turn limits number history line).text
-
-  abbrev next : List Entry
-  next = (turn limits number history line).history
-
-  abbrev ends : Option End
-  ends = (turn limits number history line).ends
-
-  -- what all comes to, with this line in front
-  with_line : (lines : List (List ℕ)) (p : Playing limits a b number history all_lines all) → all_lines ≡ line ∷ lines
-      → before p.so_far (before text (unless_ended ends (play_from limits (number + 1) next lines))) ≡ all
-  with_line lines p e = ap (λ l. before p.so_far (play_from limits number history l)) (sym e) ∙ p.rest
+  in_front : (front : List ℕ) → CutShort front → PlaysFront limits number history (line ∷ lines) front
+  in_front front (inl none) = inl none
+  in_front front (inr (now, turn, is)) = inr (now, turn, inl is)
 
   -- a front of what a line prints was written
-  pub cut_short : (lines : List (List ℕ)) → Playing limits a b number history all_lines all → all_lines ≡ line ∷ lines → AppendsFront b c text → AppendsFront a c all.text
-  cut_short lines p e front =
-      let others = (unless_ended ends (play_from limits (number + 1) next lines)).text in
-      let whole : p.so_far ++ (text ++ others) ≡ all.text = ap (λ o. o.text) (with_line lines p e) in (
-        front.0 ++ others,
-        (
-          p.so_far ++ front.1.0,
-          sym whole ∙ ap (λ l. p.so_far ++ (l ++ others)) front.1.1 ∙ ap (λ l. p.so_far ++ l) (append_assoc front.1.0 front.0 others) ∙ sym (append_assoc p.so_far front.1.0 (front.0 ++ others)),
-          Appends-trans a b c p.so_far front.1.0 p.wrote front.1.2,
-        ),
-      )
+  pub cut_short : Playing limits all a b number history (line ∷ lines) → SaysFront b c CutShort → SaysFront a c (PlaysFront limits 1 [] all)
+  cut_short p (front, is, wrote) = (p.so_far ++ front, p.fronts front (in_front front is), Appends-trans a b c p.so_far front p.wrote wrote)
 
   -- a line was said, and it was the last
-  pub stopped : (lines : List (List ℕ)) (end : End) → Playing limits a b number history all_lines all → all_lines ≡ line ∷ lines → Appends b c text → ends ≡ Some end
-      → (status_at end ≡ all.status) × Appends a c all.text
-  stopped lines end p e wrote off =
-      let whole : before p.so_far (before text (record { text = []; status = status_at end })) ≡ all =
-      ap (λ o. before p.so_far (before text (unless_ended o (play_from limits (number + 1) next lines)))) (sym off) ∙ with_line lines p e in (
-        ap (λ o. o.status) whole,
-        subst (Appends a c) (ap (λ l. p.so_far ++ l) (sym (append-nil text)) ∙ ap (λ o. o.text) whole) (Appends-trans a b c p.so_far text p.wrote wrote),
-      )
+  pub stopped : (text : List ℕ) (after : List Entry) (end : End) → Playing limits all a b number history (line ∷ lines) → Appends b c text
+      → IsTurn limits number history line (record { history = after; text = text; ends = Some end })
+      → (all_text : List ℕ) × Plays limits 1 [] all (record { text = all_text; status = status_at end }) × Appends a c all_text
+  stopped text after end p wrote turn = (
+    p.so_far ++ text,
+    p.goes (record { text = text; status = status_at end }) (record { history = after; text = text; ends = Some end }, turn, refl),
+    Appends-trans a b c p.so_far text p.wrote wrote,
+  )
 
   -- a line was said, and the next is reached
-  pub said : (lines : List (List ℕ)) (after : List Entry) → Playing limits a b number history all_lines all → all_lines ≡ line ∷ lines → Appends b c text → ends ≡ None → after ≡ next
-      → Playing limits a c (number + 1) after lines all
-  said lines after p e wrote on same = record {
+  pub said : (text : List ℕ) (after : List Entry) → Playing limits all a b number history (line ∷ lines) → Appends b c text
+      → IsTurn limits number history line (record { history = after; text = text; ends = None }) → Playing limits all a c (number + 1) after lines
+  said text after p wrote turn = record {
     so_far = p.so_far ++ text;
     wrote = Appends-trans a b c p.so_far text p.wrote wrote;
-    rest = before_before p.so_far text (play_from limits (number + 1) after lines)
-        ∙ ap (λ h. before p.so_far (before text (play_from limits (number + 1) h lines))) same
-        ∙ ap (λ o. before p.so_far (before text (unless_ended o (play_from limits (number + 1) next lines)))) (sym on)
-        ∙ with_line lines p e;
+    goes = λ rest plays. subst (Plays limits 1 [] all) (ap (λ t. record { text = t; status = rest.status }) (sym (append_assoc p.so_far text rest.text)))
+        (p.goes (before text rest) (record { history = after; text = text; ends = None }, turn, (rest, plays, refl)));
+    fronts = λ front plays. subst (PlaysFront limits 1 [] all) (sym (append_assoc p.so_far text front))
+        (p.fronts (text ++ front) (inr (record { history = after; text = text; ends = None }, turn, inr (front, plays, refl))));
   }
 
-  -- the last line was said, and no other is left
-  pub finished : (more : Option (Bor (List ℕ))) → Playing limits a b number history all_lines all → all_lines ≡ line ∷ lines_left more → more ≡ None → Appends b c text → ends ≡ None
-      → (0 ≡ all.status) × Appends a c all.text
-  finished more p e none wrote on =
-      let q = said [] next p (e ∙ ap (λ o. line ∷ lines_left o) none) wrote on refl in
-      (ap (λ o. o.status) q.rest, subst (Appends a c) (sym (append-nil q.so_far) ∙ ap (λ o. o.text) q.rest) q.wrote)
-
-  -- the next line is reached
-  pub went_on : (more : Option (Bor (List ℕ))) (rest : Bor (List ℕ)) (after : List Entry) → Playing limits a b number history all_lines all → all_lines ≡ line ∷ lines_left more
-      → more ≡ Some rest → Appends b c text → ends ≡ None → after ≡ next → Playing limits a c (number + 1) after (lines_of rest.now) all
-  went_on more rest after p e some wrote on same = said (lines_of rest.now) after p (e ∙ ap (λ o. line ∷ lines_left o) some) wrote on same
-
-  -- the same where the book tells the limits
-  pub went_on_at : (told : Limits) (more : Option (Bor (List ℕ))) (rest : Bor (List ℕ)) (after : List Entry) → told ≡ limits → Playing limits a b number history all_lines all
-      → all_lines ≡ line ∷ lines_left more → more ≡ Some rest → Appends b c text → ends ≡ None → after ≡ next → Playing told a c (number + 1) after (lines_of rest.now) all
-  went_on_at told more rest after same p e some wrote on now =
-      subst (λ (l : Limits). Playing l a c (number + 1) after (lines_of rest.now) all) (sym same) (went_on more rest after p e some wrote on now)
+-- no line is left
+pub finished : (limits : Limits) (all : List (List ℕ)) (a b : Option (List ℕ)) (number : ℕ) (history : List Entry) → Playing limits all a b number history []
+    → (text : List ℕ) × Plays limits 1 [] all (record { text = text; status = 0 }) × Appends a b text
+finished limits all a b number history p = (
+  p.so_far ++ [],
+  p.goes (record { text = []; status = 0 }) refl,
+  subst (Appends a b) (sym (append-nil p.so_far)) p.wrote,
+)

@@ -1,9 +1,9 @@
 -- What the words ask for.
-use Rattle.std.specs.Prelude.{ℕ, ◌==◌, Bool, false, not, ◌&&◌, ◌||◌, List, [], ◌∷◌, ◌++◌, codes, Option, Some, None, if◌then◌else◌}
+use Rattle.std.specs.Prelude.{◌≡◌, ℕ, ◌==◌, Bool, true, false, not, ◌&&◌, ◌||◌, List, [], ◌∷◌, ◌++◌, codes, Option, Some, None, if◌then◌else◌}
 use Rattle.std.specs.Option.{is_some}
 use Rattle.std.specs.Str.{bytes_eq}
 use Rattle.gateway_cli.specs.Files.{Files}
-use Rattle.gateway_cli.specs.Play.{Output, played}
+use Rattle.gateway_cli.specs.Play.{Output, Played, PlayedFront, IsFront}
 use Rattle.gateway_cli.specs.Printed.{line_feed}
 use Rattle.gateway_cli.specs.Render.{render_of}
 
@@ -39,6 +39,26 @@ abbrev pub render_or_usage : Files → Option (List ℕ × List ℕ) → Output
 render_or_usage files None = usage
 render_or_usage files (Some names) = render_of files names.0 names.1
 
--- what the program prints with these words, this input and these files
-unfoldable pub outcome : List (List ℕ) → List ℕ → Files → Output
-outcome words input files = if is_play words then played input else render_or_usage files (render_names words)
+-- what the program prints with these words, this input and these files, by whether they are `play`
+abbrev pub OutcomeBy : Bool → List (List ℕ) → List ℕ → Files → Output → Type 0
+OutcomeBy true words input files output = Played input output
+OutcomeBy false words input files output = output ≡ render_or_usage files (render_names words)
+
+pub Outcome : List (List ℕ) → List ℕ → Files → Output → Type 0
+Outcome words input files output = OutcomeBy (is_play words) words input files output
+
+-- and a front of it, where it is cut short
+abbrev pub OutcomeFrontBy : Bool → List (List ℕ) → List ℕ → Files → List ℕ → Type 0
+OutcomeFrontBy true words input files front = PlayedFront input front
+OutcomeFrontBy false words input files front = IsFront front (render_or_usage files (render_names words)).text
+
+pub OutcomeFront : List (List ℕ) → List ℕ → Files → List ℕ → Type 0
+OutcomeFront words input files front = OutcomeFrontBy (is_play words) words input files front
+
+-- The outcome is one thing, and a front is one of it.
+abbrev pub HasOneOutcome : Type 0
+HasOneOutcome = (words : List (List ℕ)) (input : List ℕ) (files : Files) (first second : Output) → Outcome words input files first → Outcome words input files second → first ≡ second
+
+abbrev pub FrontsAreOfTheOutcome : Type 0
+FrontsAreOfTheOutcome =
+    (words : List (List ℕ)) (input : List ℕ) (files : Files) (output : Output) (front : List ℕ) → Outcome words input files output → OutcomeFront words input files front → IsFront front output.text

@@ -1,5 +1,5 @@
--- the answers to a call, to the byte
-pub mod Answers
+-- the calls of a script: a connection and its lines
+pub mod Calls
 -- lines, fields and their coding
 pub mod Coding
 -- what the words ask for

@@ -7,11 +7,10 @@ use Rattle.vtl_grammar.specs.Printed.{printed}
 use Rattle.book_core.specs.Printed.{refusal_name}
 use Rattle.book_core.specs.declared.replies.Reply.{Reply}
 use Rattle.book_core.specs.declared.replies.Reply.TheVariants.{Entered, NoStage, Store, Left, Done, Deployed, Refused}
-use Rattle.gateway_cli.specs.Answers.{busy}
 use Rattle.gateway_cli.specs.declared.coding.TheConstants.{CODED}
 use Rattle.gateway_cli.specs.declared.records.LineFault.{LineFault}
 use Rattle.gateway_cli.specs.declared.records.LineFault.TheVariants.{BadRecord, NotBuilt, Template}
-use Rattle.gateway_cli.specs.declared.turns.Fullness.{Fullness}
+use Rattle.play_connection.specs.declared.ended.Fullness.{Fullness}
 
 abbrev pub line_feed : List ℕ
 line_feed = 10 ∷ []
@@ -40,17 +39,6 @@ line_fault (Template fault) = concat (printed fault ∷ codes " at /text" ∷ []
 unfoldable pub refused_line : ℕ → LineFault → List ℕ
 refused_line number fault = concat (codes "refused line " ∷ decimal number ∷ codes " " ∷ line_fault fault ∷ line_feed ∷ [])
 
--- the lines of a connection that was served to its end
-unfoldable pub closed_lines : List ℕ → List ℕ
-closed_lines bytes = concat (codes "answer " ∷ coded bytes ∷ line_feed ∷ codes "ended Closed" ∷ line_feed ∷ [])
-
 -- the line that ends a play where the session is full
 unfoldable pub full_line : Fullness → List ℕ
 full_line full = concat (codes "full " ∷ decimal full.entries ∷ codes " " ∷ decimal full.bytes ∷ line_feed ∷ [])
-
--- the lines of a connection on which the session was full, and that line
-unfoldable pub full_lines : Fullness → List ℕ
-full_lines full = concat (
-    codes "answer " ∷ coded busy ∷ line_feed
-    ∷ codes "ended SessionFull(" ∷ decimal full.entries ∷ codes "," ∷ decimal full.bytes ∷ codes ")" ∷ line_feed
-    ∷ full_line full ∷ [])

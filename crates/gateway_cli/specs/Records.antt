@@ -5,7 +5,7 @@ use Rattle.std.specs.Str.{bytes_eq}
 use Rattle.book_core.specs.Names.{is_name}
 use Rattle.gateway_cli.specs.Coding.{fields_of, text_of, number_of}
 use Rattle.gateway_cli.specs.declared.records.Record.{Record}
-use Rattle.gateway_cli.specs.declared.records.Record.TheVariants.{PutText, Deploy, PutStage, Post}
+use Rattle.gateway_cli.specs.declared.records.Record.TheVariants.{PutText, Deploy, PutStage, Post, Call}
 use Rattle.gateway_cli.specs.declared.records.LineFault.{LineFault}
 use Rattle.gateway_cli.specs.declared.records.LineFault.TheVariants.{BadRecord, NotBuilt}
 
@@ -57,16 +57,13 @@ stage_record m a s d fields = do
   variables ← variables_of fields
   Ok (PutStage moment api stage deployment variables)
 
--- the most bytes of a body that is served
+-- the most bytes of the body of the command `render`
 unfoldable pub body_limit : ℕ
 body_limit = 10485760
 
--- a call's API and stage are names, and a longer body is held back
-abbrev pub called : List ℕ → List ℕ → List ℕ → Record → Reading
-called api stage body found =
-    if not (is_name api && is_name stage) then Err BadRecord
-    else if nat_lt body_limit (length body) then Err NotBuilt
-    else Ok found
+-- a call's API and stage are names
+abbrev pub called : List ℕ → List ℕ → Record → Reading
+called api stage found = if is_name api && is_name stage then Ok found else Err BadRecord
 
 unfoldable pub post_record : List ℕ → List ℕ → List ℕ → List ℕ → List ℕ → Reading
 post_record m w a s b = do
@@ -75,7 +72,13 @@ post_record m w a s b = do
   api ← text_of a
   stage ← text_of s
   body ← text_of b
-  called api stage body (Post moment word api stage body)
+  called api stage (Post moment word api stage body)
+
+unfoldable pub call_record : List ℕ → List ℕ → List ℕ → List (List ℕ) → Reading
+call_record m w bytes outcomes = do
+  moment ← number_of 64 m
+  word ← number_of 64 w
+  Ok (Call moment word bytes outcomes)
 
 -- the fields behind a record's name
 abbrev pub text_fields : List (List ℕ) → Reading
@@ -94,13 +97,17 @@ abbrev pub post_fields : List (List ℕ) → Reading
 post_fields (m ∷ w ∷ a ∷ s ∷ b ∷ []) = post_record m w a s b
 post_fields fields = Err BadRecord
 
+abbrev pub call_fields : List (List ℕ) → Reading
+call_fields (m ∷ w ∷ bytes ∷ outcomes) = call_record m w bytes outcomes
+call_fields fields = Err BadRecord
+
 -- the records that are held back
 unfoldable pub is_held_back : List ℕ → Bool
 is_held_back name =
     bytes_eq name (codes "keepfails") || bytes_eq name (codes "api") || bytes_eq name (codes "canary")
     || bytes_eq name (codes "promote") || bytes_eq name (codes "key") || bytes_eq name (codes "plan")
     || bytes_eq name (codes "join") || bytes_eq name (codes "grant") || bytes_eq name (codes "flush")
-    || bytes_eq name (codes "usage") || bytes_eq name (codes "shutdown") || bytes_eq name (codes "call")
+    || bytes_eq name (codes "usage") || bytes_eq name (codes "shutdown")
 
 -- the record of these fields, the first of which is its name
 unfoldable pub record_of : List (List ℕ) → Reading
@@ -110,6 +117,7 @@ record_of (name ∷ fields) =
     else if bytes_eq name (codes "deploy") then deploy_fields fields
     else if bytes_eq name (codes "stage") then stage_fields fields
     else if bytes_eq name (codes "post") then post_fields fields
+    else if bytes_eq name (codes "call") then call_fields fields
     else if is_held_back name then Err NotBuilt
     else Err BadRecord
 

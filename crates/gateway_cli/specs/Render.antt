@@ -11,12 +11,12 @@ use Rattle.vtl_eval.specs.Printed.{stop_name}
 use Rattle.vtl_eval.specs.Roots.{Kept}
 use Rattle.vtl_eval.specs.declared.stop.Rendered.{Rendered}
 use Rattle.vtl_eval.specs.declared.stop.Stop.{Stop}
-use Rattle.gateway_cli.specs.Answers.{budget}
 use Rattle.gateway_cli.specs.Files.{Files, content_of, within}
 use Rattle.gateway_cli.specs.Play.{Output, too_long}
 use Rattle.gateway_cli.specs.Printed.{line_feed}
 use Rattle.gateway_cli.specs.Records.{body_limit}
-use Rattle.gateway_cli.specs.Requests.{meanings_at, render_request, render_facts}
+use Rattle.gateway_cli.specs.Requests.{render_request, render_facts}
+use Rattle.play_connection.specs.Answering.{budget, meanings_at}
 
 -- the line of a template that is refused
 unfoldable pub refused : List ℕ → Output

@@ -18,23 +18,31 @@ OfTold {A} outside P = (x : A) × IfSome outside (λ told. x ≡ told) × P x
 abbrev pub Answered : Option (List ℕ) → Option (List ℕ) → Output → ℕ → Type 0
 Answered old new output status = (status ≡ output.status) × Appends old new output.text
 
--- a front of the text was written, and then a front of the line that names a fault
-abbrev pub SaysFault : Option (List ℕ) → Option (List ℕ) → List ℕ → List ℕ → Type 0
-SaysFault old new text name = (mid : Option (List ℕ)) × AppendsFront old mid text × AppendsFront mid new (codes "fault " ++ name ++ line_feed)
+-- such an output was written whole, and its status answered
+abbrev pub Says : Option (List ℕ) → Option (List ℕ) → (Output → Type 0) → ℕ → Type 0
+Says old new IsOutput status = (output : Output) × IsOutput output × Answered old new output status
+
+-- such a front was written
+abbrev pub SaysFront : Option (List ℕ) → Option (List ℕ) → (List ℕ → Type 0) → Type 0
+SaysFront old new Front = (text : List ℕ) × Front text × Appends old new text
+
+-- such a front was written, and then a front of the line that names a fault
+abbrev pub SaysFault : Option (List ℕ) → Option (List ℕ) → (List ℕ → Type 0) → List ℕ → Type 0
+SaysFault old new Front name = (mid : Option (List ℕ)) × SaysFront old mid Front × AppendsFront mid new (codes "fault " ++ name ++ line_feed)
 
 -- a count of faults, before a call and after it
 pub record Count : Type 0 where
   pub before : ℕ
   pub now : ℕ
 
--- a front of the text was written, and then a front of the line that names a count that rose
-abbrev pub Names : Option (List ℕ) → Option (List ℕ) → List ℕ → Count → List ℕ → Type 0
-Names old new text count name = Rose count.before count.now × SaysFault old new text name
+-- such a front was written, and then a front of the line that names a count that rose
+abbrev pub Names : Option (List ℕ) → Option (List ℕ) → (List ℕ → Type 0) → Count → List ℕ → Type 0
+Names old new Front count name = Rose count.before count.now × SaysFault old new Front name
 
 -- the count of the input, that of the output or that of the files rose, and the line names it
-abbrev pub Faulted : Option (List ℕ) → Option (List ℕ) → List ℕ → Count → Count → Count → Type 0
-Faulted old new text input output files =
-    Names old new text input (codes "input") ⊎ (Names old new text output (codes "output") ⊎ Names old new text files (codes "file"))
+abbrev pub Faulted : Option (List ℕ) → Option (List ℕ) → (List ℕ → Type 0) → Count → Count → Count → Type 0
+Faulted old new Front input output files =
+    Names old new Front input (codes "input") ⊎ (Names old new Front output (codes "output") ⊎ Names old new Front files (codes "file"))
 
 -- why the program stops where a write was refused
 abbrev pub stopped_by : WriteStop → Stopped

@@ -1,22 +1,22 @@
 // What a record does to the book, and what it prints.
-ghost use Rattle.std.specs.Prelude.{◌≡◌, ◌^◌, ◌<◌, [], true, Ok, Err, Some, None, IfOk, MatchResult};
+ghost use Rattle.std.specs.Prelude.{◌≡◌, ◌^◌, ◌<◌, true, Ok, Err, Some, None, IfOk, MatchResult};
 ghost use Rattle.book_core.specs.History.{reply as reply_of};
 ghost use Rattle.book_core.specs.Rows.{no_rows};
-ghost use Rattle.book_core.specs.Times.{IsInTime};
 ghost use Rattle.vtl_grammar.specs.Templates.{read_of};
-ghost use Rattle.gateway_cli.specs.Printed.{full_lines as full_lines_of, refused_line as refused_line_of};
-ghost use Rattle.gateway_cli.specs.Play.{taken as taken_of, commanded as commanded_of, left as left_of, posted as posted_of, put_text as put_text_of, done as done_of, turn as turn_of};
+ghost use Rattle.gateway_cli.specs.Printed.{refused_line as refused_line_of};
+ghost use Rattle.gateway_cli.specs.Play.{commanded as commanded_of, put_text as put_text_of, IsCall, Does, IsTurn};
+ghost use Rattle.play_connection.specs.Serving.{taken as taken_of};
 
-use crate::answer::Answer;
-use crate::answers::{answer_to, spelled, status};
+use crate::connections::{post_bytes, talked};
 use crate::fields::is_passed_over;
-use crate::printed::{closed_lines, full_line, full_lines, refused_line, reply_line};
+use crate::outcomes::are_outcomes;
+use crate::printed::{full_line, refused_line, reply_line};
 use crate::reading::record_in;
 use crate::records::{LineFault, Record};
-use crate::requests::post_request;
-use crate::turns::{End, Fullness, Said};
+use crate::turns::{End, Said};
 use book_core::{Api, Book, Command, Event, Reply, StepFault, Vars};
-use gw_base::{Memory, Seq, Shared, Text};
+use gw_base::{Bytes, Memory, Seq, Shared, Text};
+use play_connection::Fullness;
 use std::alloc::Global;
 use vtl_grammar::TemplateFault;
 
@@ -24,7 +24,7 @@ use vtl_grammar::TemplateFault;
 fn taken(book: &mut Book, alloc: Global, event: Event) -> Result<Result<Reply, Fullness>, Memory>
     requires { book.old.base.opening ≡ no_rows }
     ensures told { IfOk result (λ r. MatchResult r
-        (λ reply. (reply ≡ reply_of no_rows book.old.history event true) × IsInTime reply × (taken_of book.old.base.limits book.old.history event ≡ Ok book.new.history))
+        (λ reply. (reply ≡ reply_of no_rows book.old.history event true) × (taken_of book.old.base.limits book.old.history event ≡ Ok book.new.history))
         (λ full. (taken_of book.old.base.limits book.old.history event ≡ Err full) × (book.new.history ≡ book.old.history))) }
     ensures base { book.new.base ≡ book.old.base }
 {
@@ -52,68 +52,6 @@ fn commanded(book: &mut Book, alloc: Global, moment: u64, command: Command) -> R
             text: full_line(alloc, full)?,
             ends: Some(End::Full),
         }),
-    }
-}
-
-fn said_full(alloc: Global, full: Fullness) -> Result<Said, Memory>
-    ensures { IfOk result (λ said. said ≡ record { text = full_lines_of full; ends = Some End.Full }) }
-{
-    Ok(Said {
-        text: full_lines(alloc, full)?,
-        ends: Some(End::Full),
-    })
-}
-
-// Lets an answered call leave, and prints its answer.
-fn left(book: &mut Book, alloc: Global, answer: &Answer) -> Result<Said, Memory>
-    requires { book.old.base.opening ≡ no_rows }
-    ensures does { IfOk result (λ said. left_of book.old.base.limits book.old.history answer.now
-        ≡ record { history = book.new.history; text = said.text; ends = said.ends }) }
-    ensures base { book.new.base ≡ book.old.base }
-{
-    let bytes = spelled(alloc, answer)?;
-    let leave = Event::Leave {
-        status: status(answer.cause),
-        cause: answer.cause,
-    };
-    match taken(book, alloc, leave)? {
-        Ok(_) => Ok(Said {
-            text: closed_lines(alloc, bytes.as_str().as_bytes())?,
-            ends: None,
-        }),
-        Err(full) => said_full(alloc, full),
-    }
-}
-
-// Serves a `post`: its Enter, its answer and its Leave.
-#[tactic(auto, unfolding(crate::specs::Play::posted))]
-fn posted(
-    book: &mut Book,
-    alloc: Global,
-    moment: u64,
-    word: u64,
-    api: Text,
-    stage: Text,
-    body: Text,
-) -> Result<Said, Memory>
-    requires { book.old.base.opening ≡ no_rows }
-    ensures does { IfOk result (λ said. posted_of book.old.base.limits book.old.history moment word api stage body
-        ≡ record { history = book.new.history; text = said.text; ends = said.ends }) }
-    ensures base { book.new.base ≡ book.old.base }
-{
-    let request = post_request(alloc, api.as_str(), stage.as_str(), body)?;
-    let enter = Event::Enter {
-        moment,
-        word,
-        api: api.copy(alloc)?,
-        stage: stage.copy(alloc)?,
-    };
-    match taken(book, alloc, enter)? {
-        Ok(reply) => {
-            let answer = answer_to(alloc, &reply, api.as_str(), stage.as_str(), &request)?;
-            left(book, alloc, &answer)
-        }
-        Err(full) => said_full(alloc, full),
     }
 }
 
@@ -175,10 +113,30 @@ fn put_stage(
     commanded(book, alloc, moment, command)
 }
 
+// A connection whose outcomes have their form.
+fn called(
+    book: &mut Book,
+    alloc: Global,
+    number: u64,
+    moment: u64,
+    word: u64,
+    bytes: &[u8],
+    outcomes: &[Bytes],
+) -> Result<Said, Memory>
+    requires { book.old.base.opening ≡ no_rows }
+    ensures does { IfOk result (λ said. IsCall book.old.base.limits number book.old.history moment word bytes.now outcomes.now (record { history = book.new.history; text = said.text; ends = said.ends })) }
+    ensures base { book.new.base ≡ book.old.base }
+{
+    if are_outcomes(alloc, outcomes)? {
+        talked(book, alloc, moment, word, bytes)
+    } else {
+        refused(alloc, number, LineFault::BadRecord)
+    }
+}
+
 fn done(book: &mut Book, alloc: Global, number: u64, found: Record) -> Result<Said, Memory>
     requires { book.old.base.opening ≡ no_rows }
-    ensures does { IfOk result (λ said. done_of book.old.base.limits number book.old.history found
-        ≡ record { history = book.new.history; text = said.text; ends = said.ends }) }
+    ensures does { IfOk result (λ said. Does book.old.base.limits number book.old.history found (record { history = book.new.history; text = said.text; ends = said.ends })) }
     ensures base { book.new.base ≡ book.old.base }
 {
     match found {
@@ -201,16 +159,31 @@ fn done(book: &mut Book, alloc: Global, number: u64, found: Record) -> Result<Sa
             api,
             stage,
             body,
-        } => posted(book, alloc, moment, word, api, stage, body),
+        } => {
+            let bytes = post_bytes(alloc, api.as_str(), stage.as_str(), body.as_str())?;
+            talked(book, alloc, moment, word, bytes.as_str().as_bytes())
+        }
+        Record::Call {
+            moment,
+            word,
+            bytes,
+            outcomes,
+        } => called(
+            book,
+            alloc,
+            number,
+            moment,
+            word,
+            bytes.as_slice(),
+            outcomes.as_slice(),
+        ),
     }
 }
 
 /// What the line of this number does, and what it prints.
-#[tactic(auto, unfolding(crate::specs::Play::turn))]
 pub fn play_line(book: &mut Book, alloc: Global, number: u64, line: &[u8]) -> Result<Said, Memory>
     requires { book.old.base.opening ≡ no_rows }
-    ensures does { IfOk result (λ said. turn_of book.old.base.limits number book.old.history line.now
-        ≡ record { history = book.new.history; text = said.text; ends = said.ends }) }
+    ensures does { IfOk result (λ said. IsTurn book.old.base.limits number book.old.history line.now (record { history = book.new.history; text = said.text; ends = said.ends })) }
     ensures base { book.new.base ≡ book.old.base }
 {
     if is_passed_over(line) {

@@ -1,6 +1,7 @@
 // Templates with the text that they render to over a body, and its steps, as they were computed apart from this program.
-use crate::requests::{nothing_found, render_facts, render_request};
+use crate::requests::{render_facts, render_request};
 use gateway_vars::RequestRoots;
+use play_connection::nothing_found;
 use std::alloc::Global;
 use std::test::Fail;
 use vtl_eval::render;

@@ -36,13 +36,14 @@
 #![tactic(auto)]
 
 mod adapters;
-mod answer;
-mod answers;
 mod calls;
 mod coding;
+mod connections;
 mod fields;
 mod files;
 mod joined;
+pub mod laws;
+mod outcomes;
 mod outside;
 mod play;
 mod printed;

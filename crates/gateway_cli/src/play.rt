@@ -1,10 +1,11 @@
 // A script, line by line.
-ghost use Rattle.std.specs.Prelude.{◌≡◌, ◌+◌, ◌≤◌, ◌<◌, ◌^◌, true, length, IfOk, IfSome, OnOk, OnErr};
+ghost use Rattle.std.specs.Prelude.{◌≡◌, ◌⊎◌, ◌+◌, ◌≤◌, ◌<◌, ◌^◌, ℕ, List, [], true, length, IfOk, IfSome, OnOk, OnErr};
 ghost use Rattle.std.specs.Io.KnownBytes.{Appends};
 ghost use Rattle.gw_base.specs.Outside.{HasWriteCause};
-ghost use Rattle.gw_base.specs.Whole.{AppendsFront};
 ghost use Rattle.book_core.specs.Rows.{no_rows};
-ghost use Rattle.gateway_cli.specs.Play.{turn, played_within, status_at, is_command_status};
+ghost use Rattle.gateway_cli.specs.Coding.{lines_of};
+ghost use Rattle.gateway_cli.specs.Play.{Turn, Output, IsTurn, IsFront, Plays, PlaysFront, status_at, is_command_status};
+ghost use Rattle.gateway_cli.specs.Top.{SaysFront};
 
 use crate::calls::play_line;
 use crate::fields::first_line;
@@ -32,10 +33,10 @@ fn say_line<W: Sink>(
     line: &[u8],
 ) -> Result<Option<End>, WriteStop>
     requires { book.old.base.opening ≡ no_rows }
-    ensures ends { IfOk result (λ ends. ends ≡ (turn book.old.base.limits number book.old.history line.now).ends) }
-    ensures history { OnOk result (book.new.history ≡ (turn book.old.base.limits number book.old.history line.now).history) }
-    ensures all { OnOk result (Appends (W.written output.old) (W.written output.new) (turn book.old.base.limits number book.old.history line.now).text) }
-    ensures front { AppendsFront (W.written output.old) (W.written output.new) (turn book.old.base.limits number book.old.history line.now).text }
+    ensures said { IfOk result (λ ends. (text : List ℕ) × IsTurn book.old.base.limits number book.old.history line.now (record { history = book.new.history; text = text; ends = ends })
+        × Appends (W.written output.old) (W.written output.new) text) }
+    ensures front { OnErr result (SaysFront (W.written output.old) (W.written output.new)
+        (λ front. (front ≡ []) ⊎ ((now : Turn) × IsTurn book.old.base.limits number book.old.history line.now now × IsFront front now.text))) }
     ensures cause { HasWriteCause (W.faults output.old) (W.faults output.new) result }
     ensures base { book.new.base ≡ book.old.base }
 {
@@ -53,12 +54,12 @@ pub fn play_within<W: Sink>(
     output: &mut W,
 ) -> Result<u8, WriteStop>
     requires { length script.now < 2 ^ 63 }
-    ensures status { IfOk result (λ status. status ≡ (played_within limits script.now).status) }
+    ensures all { IfOk result (λ status. (text : List ℕ) × Plays limits 1 [] (lines_of script.now) (record { text = text; status = status })
+        × Appends (W.written output.old) (W.written output.new) text) }
     ensures known { IfOk result (λ status. is_command_status status ≡ true) }
-    ensures all { OnOk result (Appends (W.written output.old) (W.written output.new) (played_within limits script.now).text) }
 
     // Where a write is refused, or memory is wanting, a front is written.
-    ensures front { AppendsFront (W.written output.old) (W.written output.new) (played_within limits script.now).text }
+    ensures front { OnErr result (SaysFront (W.written output.old) (W.written output.new) (PlaysFront limits 1 [] (lines_of script.now))) }
     ensures cause { HasWriteCause (W.faults output.old) (W.faults output.new) result }
 {
     let mut book = Book::start(alloc, limits)?;

@@ -1,26 +1,18 @@
 // The lines that are printed.
 ghost use Rattle.std.specs.Prelude.{◌≡◌, ◌<◌, ◌^◌, IfOk};
-ghost use Rattle.gateway_cli.specs.Answers.{busy as busy_of};
-ghost use Rattle.gateway_cli.specs.Printed.{coded as coded_of, reply_line as reply_line_of, line_fault as line_fault_of, refused_line as refused_line_of, closed_lines as closed_lines_of, full_line as full_line_of, full_lines as full_lines_of};
+ghost use Rattle.gateway_cli.specs.Printed.{coded as coded_of, reply_line as reply_line_of, line_fault as line_fault_of, refused_line as refused_line_of, full_line as full_line_of};
 
 use crate::coding::CODED;
 use crate::joined::joined;
 use crate::records::LineFault;
-use crate::turns::Fullness;
 use book_core::Reply;
 use gw_base::{Memory, Text};
 use percent_encoding::percent_encode;
+use play_connection::Fullness;
 use std::alloc::Global;
 
-// The answer where the session is full.
-#[tactic(auto, unfolding(crate::specs::Answers::busy))]
-fn busy() -> &'static str
-    ensures { result.now ≡ busy_of }
-{
-    "HTTP/1.1 503 Service Unavailable\r\nconnection: close\r\ncontent-length: 0\r\n\r\n"
-}
-
-fn coded(alloc: Global, bytes: &[u8]) -> Result<Text, Memory>
+/// Bytes in a line.
+pub fn coded(alloc: Global, bytes: &[u8]) -> Result<Text, Memory>
     ensures { IfOk result (λ text. text ≡ coded_of bytes.now) }
 {
     let mut text = String::new(alloc);
@@ -73,18 +65,6 @@ pub fn refused_line(alloc: Global, number: u64, fault: LineFault) -> Result<Text
     )
 }
 
-/// The lines of a connection that was served to its end.
-#[tactic(auto, unfolding(crate::specs::Printed::closed_lines))]
-pub fn closed_lines(alloc: Global, bytes: &[u8]) -> Result<Text, Memory>
-    ensures { IfOk result (λ lines. lines ≡ closed_lines_of bytes.now) }
-{
-    let bytes = coded(alloc, bytes)?;
-    joined(
-        alloc,
-        &["answer ", bytes.as_str(), "\n", "ended Closed", "\n"],
-    )
-}
-
 /// The line that ends a play where the session is full.
 #[tactic(auto, unfolding(crate::specs::Printed::full_line))]
 pub fn full_line(alloc: Global, full: Fullness) -> Result<Text, Memory>
@@ -95,31 +75,5 @@ pub fn full_line(alloc: Global, full: Fullness) -> Result<Text, Memory>
     joined(
         alloc,
         &["full ", entries.as_str(), " ", bytes.as_str(), "\n"],
-    )
-}
-
-/// The lines of a connection on which the session was full, and the line that ends the play.
-#[tactic(auto, unfolding(crate::specs::Printed::full_lines))]
-pub fn full_lines(alloc: Global, full: Fullness) -> Result<Text, Memory>
-    ensures { IfOk result (λ lines. lines ≡ full_lines_of full) }
-{
-    let answer = coded(alloc, busy().as_bytes())?;
-    let entries = full.entries.to_string(alloc)?;
-    let bytes = full.bytes.to_string(alloc)?;
-    let last = full_line(alloc, full)?;
-    joined(
-        alloc,
-        &[
-            "answer ",
-            answer.as_str(),
-            "\n",
-            "ended SessionFull(",
-            entries.as_str(),
-            ",",
-            bytes.as_str(),
-            ")",
-            "\n",
-            last.as_str(),
-        ],
     )
 }

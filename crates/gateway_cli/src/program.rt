@@ -4,10 +4,10 @@ ghost use Rattle.std.specs.Bool.{MatchBool};
 ghost use Rattle.std.specs.Io.KnownBytes.{IsAtEnd};
 ghost use Rattle.gw_base.specs.Outside.{Rose};
 ghost use Rattle.gw_base.specs.Whole.{AppendsFront};
-ghost use Rattle.gateway_cli.specs.Commands.{outcome, usage, is_command, is_play as is_play_of};
-ghost use Rattle.gateway_cli.specs.Play.{played, is_command_status};
+ghost use Rattle.gateway_cli.specs.Commands.{Outcome, OutcomeFront, usage, is_command, is_play as is_play_of};
+ghost use Rattle.gateway_cli.specs.Play.{Played, PlayedFront, is_command_status};
 ghost use Rattle.gateway_cli.specs.Render.{render_of};
-ghost use Rattle.gateway_cli.specs.Top.{OfTold, Answered, Faulted};
+ghost use Rattle.gateway_cli.specs.Top.{OfTold, Answered, Says, SaysFront, Faulted};
 
 use crate::files::files_in;
 use crate::outside::Outside;
@@ -30,11 +30,10 @@ const SESSION_LIMITS: Limits = Limits {
 const SCRIPT_LIMIT: usize = 67_108_864;
 
 // Plays a script that was read.
-#[tactic(auto, unfolding(crate::specs::Play::played, crate::specs::Play::script_limit, crate::specs::Play::session_limits))]
 fn play_script<W: Sink>(alloc: Global, script: &[u8], output: &mut W) -> Result<u8, Stopped>
     requires { length script.now ≤ 67108864 }
-    ensures answered { IfOk result (λ status. Answered (W.written output.old) (W.written output.new) (played script.now) status) }
-    ensures front { AppendsFront (W.written output.old) (W.written output.new) (played script.now).text }
+    ensures answered { IfOk result (Says (W.written output.old) (W.written output.new) (Played script.now)) }
+    ensures front { OnErr result (SaysFront (W.written output.old) (W.written output.new) (PlayedFront script.now)) }
     ensures known { IfOk result (λ status. is_command_status status ≡ true) }
     ensures input { result ≢ Err Stopped.Input }
     ensures file { result ≢ Err Stopped.File }
@@ -47,10 +46,9 @@ fn play_script<W: Sink>(alloc: Global, script: &[u8], output: &mut W) -> Result<
 }
 
 // Says that a script is longer than its limit.
-#[tactic(auto, unfolding(crate::specs::Play::played, crate::specs::Play::script_limit))]
 fn say_too_long<W: Sink>(output: &mut W) -> Result<u8, Stopped>
-    ensures answered { (script : List ℕ) → 67108864 < length script → IfOk result (λ status. Answered (W.written output.old) (W.written output.new) (played script) status) }
-    ensures front { (script : List ℕ) → 67108864 < length script → AppendsFront (W.written output.old) (W.written output.new) (played script).text }
+    ensures answered { (script : List ℕ) → 67108864 < length script → IfOk result (Says (W.written output.old) (W.written output.new) (Played script)) }
+    ensures front { (script : List ℕ) → 67108864 < length script → OnErr result (SaysFront (W.written output.old) (W.written output.new) (PlayedFront script)) }
     ensures known { IfOk result (λ status. status ≡ 1) }
     ensures input { result ≢ Err Stopped.Input }
     ensures file { result ≢ Err Stopped.File }
@@ -61,8 +59,8 @@ fn say_too_long<W: Sink>(output: &mut W) -> Result<u8, Stopped>
 
 // Reads a script to its end and plays it.
 fn play<I: Source, W: Sink>(alloc: Global, input: &mut I, output: &mut W) -> Result<u8, Stopped>
-    ensures answered { IfOk result (λ status. OfTold (I.left input.old) (λ script. Answered (W.written output.old) (W.written output.new) (played script) status)) }
-    ensures front { OnErr result (OfTold (I.left input.old) (λ script. AppendsFront (W.written output.old) (W.written output.new) (played script).text)) }
+    ensures answered { IfOk result (λ status. OfTold (I.left input.old) (λ script. Says (W.written output.old) (W.written output.new) (Played script) status)) }
+    ensures front { OnErr result (OfTold (I.left input.old) (λ script. SaysFront (W.written output.old) (W.written output.new) (PlayedFront script))) }
     ensures known { IfOk result (λ status. is_command_status status ≡ true) }
     ensures read { IfOk result (λ status. status ≡ 0 → IsAtEnd (I.left input.new)) }
     ensures input { IsErrOf result Stopped.Input → Rose (I.faults input.old) (I.faults input.new) }
@@ -110,7 +108,6 @@ fn say_usage<W: Sink>(output: &mut W) -> Result<u8, Stopped>
 }
 
 // Does what the words say.
-#[tactic(auto, unfolding(crate::specs::Commands::outcome))]
 fn respond<I: Source, W: Sink, O: Outside>(
     alloc: Global,
     words: &[Text],
@@ -119,9 +116,9 @@ fn respond<I: Source, W: Sink, O: Outside>(
     outside: &mut O,
 ) -> Result<u8, Stopped>
     ensures answered { IfOk result (λ status. OfTold (I.left input.old) (λ script. OfTold (O.files outside.old) (λ files.
-        Answered (W.written output.old) (W.written output.new) (outcome words.now script files) status))) }
+        Says (W.written output.old) (W.written output.new) (Outcome words.now script files) status))) }
     ensures front { OnErr result (OfTold (I.left input.old) (λ script. OfTold (O.files outside.old) (λ files.
-        AppendsFront (W.written output.old) (W.written output.new) (outcome words.now script files).text))) }
+        SaysFront (W.written output.old) (W.written output.new) (OutcomeFront words.now script files)))) }
     ensures known { IfOk result (λ status. MatchBool (is_command words.now) (is_command_status status ≡ true) (status ≡ 2)) }
     ensures read { IfOk result (λ status. status ≡ 0 → is_play_of words.now ≡ true → IsAtEnd (I.left input.new)) }
     ensures unread { is_play_of words.now ≡ false → I.left input.new ≡ I.left input.old }
@@ -150,15 +147,15 @@ pub fn run<I: Source, W: Sink, O: Outside>(
 ) -> u8
     // What is written and answered is the outcome of the words, of the input and of the files.
     ensures exact { result ≢ 3 → result ≢ 5 → OfTold (I.left input.old) (λ script. OfTold (O.files outside.old) (λ files.
-        Answered (W.written output.old) (W.written output.new) (outcome words.now script files) result)) }
+        Says (W.written output.old) (W.written output.new) (Outcome words.now script files) result)) }
 
     // Where memory is wanting, a front of it is written.
     ensures memory { result ≡ 5 → OfTold (I.left input.old) (λ script. OfTold (O.files outside.old) (λ files.
-        AppendsFront (W.written output.old) (W.written output.new) (outcome words.now script files).text)) }
+        SaysFront (W.written output.old) (W.written output.new) (OutcomeFront words.now script files))) }
 
     // A fault comes only where a count rose in this call. A front is written, and then a front of the one line that names the count.
     ensures fault { result ≡ 3 → OfTold (I.left input.old) (λ script. OfTold (O.files outside.old) (λ files.
-        Faulted (W.written output.old) (W.written output.new) (outcome words.now script files).text
+        Faulted (W.written output.old) (W.written output.new) (OutcomeFront words.now script files)
         (record { before = I.faults input.old; now = I.faults input.new })
         (record { before = W.faults output.old; now = W.faults output.new })
         (record { before = O.faults outside.old; now = O.faults outside.new }))) }

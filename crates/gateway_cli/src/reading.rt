@@ -1,27 +1,19 @@
 // The record of a line.
 ghost use Rattle.std.specs.Prelude.{◌≡◌, ◌≢◌, ◌==◌, ◌<◌, length, position, Ok, Err, IfOk, IfErr, IfSome, OnOk};
 ghost use Rattle.std.specs.Option.{option_map};
-ghost use Rattle.gateway_cli.specs.Records.{parted as parted_of, variable_of, variables_of, called as called_of, text_record as text_record_of, deploy_record as deploy_record_of, stage_record as stage_record_of, post_record as post_record_of, text_fields as text_fields_of, deploy_fields as deploy_fields_of, stage_fields as stage_fields_of, post_fields as post_fields_of, is_held_back as is_held_back_of, record_of as record_of_fields, record_in as record_in_line};
+ghost use Rattle.gateway_cli.specs.Records.{parted as parted_of, variable_of, variables_of, called as called_of, text_record as text_record_of, deploy_record as deploy_record_of, stage_record as stage_record_of, post_record as post_record_of, call_record as call_record_of, call_fields as call_fields_of, text_fields as text_fields_of, deploy_fields as deploy_fields_of, stage_fields as stage_fields_of, post_fields as post_fields_of, is_held_back as is_held_back_of, record_of as record_of_fields, record_in as record_in_line};
 
 use crate::fields::{fields_in, number, small_number, text_of};
 use crate::records::{LineFault, Record};
 use book_core::is_name;
-use gw_base::{Bytes, Seq, Text};
-use std::alloc::{AllocError, Global};
+use gw_base::{Bytes, Memory, Seq, Text};
+use std::alloc::Global;
 
 /// A record, or why the line has none.
 type Reading = Result<Record, LineFault>;
 
-/// The most bytes of a body that is served.
-const BODY_LIMIT: usize = 10_485_760;
-
 #[tactic(auto, unfolding(crate::specs::Records::text_record))]
-fn text_record(
-    alloc: Global,
-    moment: &[u8],
-    api: &[u8],
-    template: &[u8],
-) -> Result<Reading, AllocError>
+fn text_record(alloc: Global, moment: &[u8], api: &[u8], template: &[u8]) -> Result<Reading, Memory>
     ensures { IfOk result (λ r. r ≡ text_record_of moment.now api.now template.now) }
 {
     let Some(moment) = number(moment) else {
@@ -41,7 +33,7 @@ fn text_record(
 }
 
 #[tactic(auto, unfolding(crate::specs::Records::deploy_record))]
-fn deploy_record(alloc: Global, moment: &[u8], api: &[u8]) -> Result<Reading, AllocError>
+fn deploy_record(alloc: Global, moment: &[u8], api: &[u8]) -> Result<Reading, Memory>
     ensures { IfOk result (λ r. r ≡ deploy_record_of moment.now api.now) }
 {
     let Some(moment) = number(moment) else {
@@ -70,7 +62,7 @@ fn parted(field: &[u8]) -> Option<(&[u8], &[u8])>
     }
 }
 
-fn variable(alloc: Global, field: &[u8]) -> Result<Option<(Text, Text)>, AllocError>
+fn variable(alloc: Global, field: &[u8]) -> Result<Option<(Text, Text)>, Memory>
     ensures { IfOk result (λ pair. pair ≡ variable_of field.now) }
 {
     let Some((name, value)) = parted(field) else {
@@ -85,7 +77,7 @@ fn variable(alloc: Global, field: &[u8]) -> Result<Option<(Text, Text)>, AllocEr
     Ok(Some((name, value)))
 }
 
-fn variables(alloc: Global, fields: &[Bytes]) -> Result<Option<Vec<(Text, Text)>>, AllocError>
+fn variables(alloc: Global, fields: &[Bytes]) -> Result<Option<Vec<(Text, Text)>>, Memory>
     ensures { IfOk result (λ pairs. option_map (λ v. v.items) pairs ≡ variables_of fields.now) }
 {
     let mut pairs = Vec::new(alloc);
@@ -106,7 +98,7 @@ fn stage_record(
     stage: &[u8],
     deployment: &[u8],
     fields: &[Bytes],
-) -> Result<Reading, AllocError>
+) -> Result<Reading, Memory>
     ensures { IfOk result (λ r. r ≡ stage_record_of moment.now api.now stage.now deployment.now fields.now) }
 {
     let Some(moment) = number(moment) else {
@@ -133,7 +125,7 @@ fn stage_record(
     }))
 }
 
-#[tactic(auto, unfolding(crate::specs::Records::post_record, crate::specs::Records::body_limit))]
+#[tactic(auto, unfolding(crate::specs::Records::post_record))]
 fn post_record(
     alloc: Global,
     moment: &[u8],
@@ -141,7 +133,7 @@ fn post_record(
     api: &[u8],
     stage: &[u8],
     body: &[u8],
-) -> Result<Reading, AllocError>
+) -> Result<Reading, Memory>
     ensures { IfOk result (λ r. r ≡ post_record_of moment.now word.now api.now stage.now body.now) }
 {
     let Some(moment) = number(moment) else {
@@ -162,9 +154,6 @@ fn post_record(
     if !(is_name(api.as_str()) && is_name(stage.as_str())) {
         return Ok(Err(LineFault::BadRecord));
     }
-    if body.len() > BODY_LIMIT {
-        return Ok(Err(LineFault::NotBuilt));
-    }
     Ok(Ok(Record::Post {
         moment,
         word,
@@ -174,7 +163,52 @@ fn post_record(
     }))
 }
 
-fn text_fields(alloc: Global, fields: &[Bytes]) -> Result<Reading, AllocError>
+fn copied(alloc: Global, fields: &[Bytes]) -> Result<Vec<Bytes>, Memory>
+    ensures { IfOk result (λ made. made.items ≡ fields.now) }
+{
+    let mut made = Vec::new(alloc);
+    for field in fields {
+        made.push(field.copy(alloc)?)?;
+    }
+    Ok(made)
+}
+
+#[tactic(auto, unfolding(crate::specs::Records::call_record))]
+fn call_record(
+    alloc: Global,
+    moment: &[u8],
+    word: &[u8],
+    bytes: &Bytes,
+    outcomes: &[Bytes],
+) -> Result<Reading, Memory>
+    ensures { IfOk result (λ r. r ≡ call_record_of moment.now word.now bytes.now outcomes.now) }
+{
+    let Some(moment) = number(moment) else {
+        return Ok(Err(LineFault::BadRecord));
+    };
+    let Some(word) = number(word) else {
+        return Ok(Err(LineFault::BadRecord));
+    };
+    Ok(Ok(Record::Call {
+        moment,
+        word,
+        bytes: bytes.copy(alloc)?,
+        outcomes: Seq::of(copied(alloc, outcomes)?),
+    }))
+}
+
+fn call_fields(alloc: Global, fields: &[Bytes]) -> Result<Reading, Memory>
+    ensures { IfOk result (λ r. r ≡ call_fields_of fields.now) }
+{
+    match fields {
+        [m, w, bytes, outcomes @ ..] => {
+            call_record(alloc, m.as_slice(), w.as_slice(), bytes, outcomes)
+        }
+        _ => Ok(Err(LineFault::BadRecord)),
+    }
+}
+
+fn text_fields(alloc: Global, fields: &[Bytes]) -> Result<Reading, Memory>
     ensures { IfOk result (λ r. r ≡ text_fields_of fields.now) }
 {
     match fields {
@@ -183,7 +217,7 @@ fn text_fields(alloc: Global, fields: &[Bytes]) -> Result<Reading, AllocError>
     }
 }
 
-fn deploy_fields(alloc: Global, fields: &[Bytes]) -> Result<Reading, AllocError>
+fn deploy_fields(alloc: Global, fields: &[Bytes]) -> Result<Reading, Memory>
     ensures { IfOk result (λ r. r ≡ deploy_fields_of fields.now) }
 {
     match fields {
@@ -192,7 +226,7 @@ fn deploy_fields(alloc: Global, fields: &[Bytes]) -> Result<Reading, AllocError>
     }
 }
 
-fn stage_fields(alloc: Global, fields: &[Bytes]) -> Result<Reading, AllocError>
+fn stage_fields(alloc: Global, fields: &[Bytes]) -> Result<Reading, Memory>
     ensures { IfOk result (λ r. r ≡ stage_fields_of fields.now) }
 {
     match fields {
@@ -208,7 +242,7 @@ fn stage_fields(alloc: Global, fields: &[Bytes]) -> Result<Reading, AllocError>
     }
 }
 
-fn post_fields(alloc: Global, fields: &[Bytes]) -> Result<Reading, AllocError>
+fn post_fields(alloc: Global, fields: &[Bytes]) -> Result<Reading, Memory>
     ensures { IfOk result (λ r. r ≡ post_fields_of fields.now) }
 {
     match fields {
@@ -240,11 +274,10 @@ fn is_held_back(name: &[u8]) -> bool
         || name == b"flush".as_slice()
         || name == b"usage".as_slice()
         || name == b"shutdown".as_slice()
-        || name == b"call".as_slice()
 }
 
 #[tactic(auto, unfolding(crate::specs::Records::record_of))]
-fn record_of(alloc: Global, fields: &[Bytes]) -> Result<Reading, AllocError>
+fn record_of(alloc: Global, fields: &[Bytes]) -> Result<Reading, Memory>
     ensures { IfOk result (λ r. r ≡ record_of_fields fields.now) }
 {
     let [name, rest @ ..] = fields else {
@@ -263,6 +296,9 @@ fn record_of(alloc: Global, fields: &[Bytes]) -> Result<Reading, AllocError>
     if name == b"post".as_slice() {
         return post_fields(alloc, rest);
     }
+    if name == b"call".as_slice() {
+        return call_fields(alloc, rest);
+    }
     if is_held_back(name) {
         return Ok(Err(LineFault::NotBuilt));
     }
@@ -270,7 +306,7 @@ fn record_of(alloc: Global, fields: &[Bytes]) -> Result<Reading, AllocError>
 }
 
 /// The record of a line, or why it has none.
-pub fn record_in(alloc: Global, line: &[u8]) -> Result<Reading, AllocError>
+pub fn record_in(alloc: Global, line: &[u8]) -> Result<Reading, Memory>
     ensures { IfOk result (λ r. r ≡ record_in_line line.now) }
 {
     match fields_in(alloc, line)? {

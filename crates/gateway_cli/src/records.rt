@@ -1,4 +1,4 @@
-use gw_base::{Seq, Text};
+use gw_base::{Bytes, Seq, Text};
 use vtl_grammar::TemplateFault;
 
 /// A record of a script, read from its line.
@@ -31,6 +31,13 @@ pub enum Record {
         api: Text,
         stage: Text,
         body: Text,
+    },
+    /// `call M W REQUEST` and fields OUTCOME: a connection with these bytes, and what its exchanges come to.
+    Call {
+        moment: u64,
+        word: u64,
+        bytes: Bytes,
+        outcomes: Seq<Bytes>,
     },
 }
 

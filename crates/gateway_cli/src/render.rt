@@ -2,21 +2,24 @@
 ghost use Rattle.std.specs.Prelude.{◌≡◌, ◌<◌, [], true, Some, Ok, Err, IfOk};
 ghost use Rattle.vtl_eval.specs.Meaning.{rendering};
 ghost use Rattle.vtl_grammar.specs.Templates.{read_of, tree_of};
-ghost use Rattle.gateway_cli.specs.Answers.{budget};
 ghost use Rattle.gateway_cli.specs.Play.{is_command_status};
 ghost use Rattle.gateway_cli.specs.Render.{refused as refused_of, stopped as stopped_of, shown as shown_of, read_over as read_over_of, judged as judged_of};
-ghost use Rattle.gateway_cli.specs.Requests.{meanings_at, render_request as render_request_of, render_facts as render_facts_of};
+ghost use Rattle.play_connection.specs.Answering.{budget, meanings_at};
+ghost use Rattle.gateway_cli.specs.Requests.{render_request as render_request_of, render_facts as render_facts_of};
 
-use crate::answers::BUDGET;
 use crate::joined::joined;
-use crate::requests::{nothing_found, render_facts, render_request};
+use crate::requests::{render_facts, render_request};
 use call_facts::{CallFacts, Request};
 use gateway_vars::RequestRoots;
 use gw_base::{Bytes, Memory, Text};
+use play_connection::nothing_found;
 use std::alloc::Global;
 use vtl_eval::{Stop, render};
 use vtl_grammar::TemplateFault;
 use vtl_reader::Template;
+
+/// The most evaluated nodes of a render.
+const BUDGET: u64 = 1_000_000;
 
 /// What a render prints, and its status.
 #[derive(Drop)]
@@ -49,7 +52,7 @@ fn stopped(alloc: Global, stop: Stop) -> Result<Shown, Memory>
 }
 
 // Renders a template over a request and its call.
-#[tactic(auto, unfolding(crate::specs::Answers::budget))]
+#[tactic(auto, unfolding(play_connection::specs::Answering::budget))]
 fn shown_at(
     alloc: Global,
     template: &Template,

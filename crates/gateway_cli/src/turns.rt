@@ -1,12 +1,5 @@
 use gw_base::Text;
 
-/// The numbers of a history that is full: its entries, and the bytes of its events' texts.
-#[derive(Clone, Copy, Debug, PartialEq, Eq)]
-pub struct Fullness {
-    pub entries: u32,
-    pub bytes: u64,
-}
-
 /// Why a play ends at a line.
 #[derive(Clone, Copy, Debug, PartialEq, Eq)]
 pub enum End {

@@ -1,5 +1,6 @@
 // What is kept between two messages.
-ghost use Rattle.std.specs.Prelude.{◌≡◌, ◌≤◌, [], None, OnOk, length};
+ghost use Rattle.std.specs.Prelude.{◌≡◌, ◌≢◌, ◌≤◌, [], None, OnOk, length};
+ghost use Rattle.std.specs.Bool.{MatchBool};
 ghost use Rattle.http_edge.specs.Buffers.{emptied};
 
 use gw_base::Memory;
@@ -35,6 +36,13 @@ impl Buffer {
             room: Vec::new(alloc),
             fault: None,
         }
+    }
+
+    /// Whether no byte is held.
+    pub fn is_empty(&self) -> bool
+        ensures { MatchBool result (self.now.bytes ≡ []) (self.now.bytes ≢ []) }
+    {
+        self.held.as_slice().is_empty()
     }
 
     // Keeps this fault, and nothing else.

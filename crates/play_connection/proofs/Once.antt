@@ -1,15 +1,14 @@
 -- A connection comes to one thing.
-use Rattle.std.proofs.Common.{◌≡◌, ℕ, ◌+◌, Bool, true, false, List, [], ◌∷◌, Option, Some, None, Result, Ok, Err, refl, sym, ap, ◌∙◌, subst}
+use Rattle.std.proofs.Common.{◌≡◌, ℕ, ◌+◌, Bool, true, false, List, [], ◌∷◌, Some, Result, Ok, Err, refl, sym, ap, ◌∙◌, subst}
 use Rattle.book_core.specs.History.{Base}
 use Rattle.book_core.specs.declared.events.Entry.{Entry}
 use Rattle.call_facts.specs.declared.request.Request.{Request}
 use Rattle.http_edge.proofs.NextUnique.{next_unique}
-use Rattle.http_edge.specs.Messages.{IsNext}
 use Rattle.http_edge.specs.declared.incoming.Incoming.{Incoming}
 use Rattle.http_edge.specs.declared.incoming.Incoming.TheVariants.{Whole, TooLarge, End}
 use Rattle.http_framing.specs.declared.fault.EdgeFault.{EdgeFault}
 use Rattle.play_connection.specs.Serving.{Exchange, Refused, served}
-use Rattle.play_connection.specs.Talks.{Said, behind, edge_end, Ends, GoesOn, Answers, message_of, Stands, Talks, Connects, ConnectsOnce}
+use Rattle.play_connection.specs.Talks.{Said, behind, Ends, GoesOn, Answers, message_of, Stands, Talks, ConnectsOnce}
 
 some_same : {X : Type 0} {x y : X} → Some x ≡ Some y → x ≡ y
 some_same e = cc
@@ -38,7 +37,10 @@ module _ (further other : List Entry → Said → Type 0) (once : (after : List 
   answers_once (Err refused) none also a b x y = x.1 ∙ sym y.1
 
 -- the request of a message, and whether it is too large
-same_request : (large also : Bool) (r q : Request) → Ok {E = EdgeFault} (message_of large r) ≡ Ok (message_of also q) → (large ≡ also) × (r ≡ q)
+same_message : (m n : Incoming) → (the_end : Result Incoming EdgeFault) → the_end ≡ Ok m → the_end ≡ Ok n → m ≡ n
+same_message m n the_end e f = cc
+
+same_request : (large also : Bool) (r q : Request) → message_of large r ≡ message_of also q → (large ≡ also) × (r ≡ q)
 same_request true true r q e = (refl, cc)
 same_request true false r q e = absurd (cc)
 same_request false true r q e = absurd (cc)
@@ -52,9 +54,9 @@ module _ (base : Base) (moment word : ℕ) where
       → Stands base moment word number history bytes large r none further a → Stands base moment word number history bytes also q neither other b → a ≡ b
   stands_once number history bytes large also r q none neither further other once a b (rest, next, answers) (left, next_too, answers_too) =
       let one = next_unique (Ok (message_of large r)) (Ok (message_of also q)) bytes rest left next next_too in
-      let same = same_request large also r q one.0 in
+      let same = same_request large also r q (same_message (message_of large r) (message_of also q) (Ok (message_of large r)) refl one.0) in
       let moved : Answers (served base moment word number history large r) neither (other rest) b =
-      subst (λ p. Answers (served base moment word number history p.0 p.1) neither (other p.2) b)
+      subst (λ (p : Bool × Request × List ℕ). Answers (served base moment word number history p.0 p.1) neither (other p.2) b)
       (ap (λ l. (l, q, left)) (sym same.0) ∙ ap (λ s. (large, s, left)) (sym same.1) ∙ ap (λ t. (large, r, t)) (sym one.1)) answers_too in
       answers_once (further rest) (other rest) (once rest) (served base moment word number history large r) none neither a b answers moved
 

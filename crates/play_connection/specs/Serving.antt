@@ -1,5 +1,5 @@
 -- What one message does to a book.
-use Rattle.std.specs.Prelude.{ℕ, ◌==◌, Bool, true, List, [], ◌∷◌, ◌++◌, length, codes, Result, Ok, Err, if◌then◌else◌}
+use Rattle.std.specs.Prelude.{ℕ, Bool, true, List, [], ◌∷◌, ◌++◌, length, codes, Result, Ok, Err, if◌then◌else◌}
 use Rattle.std.specs.Str.{bytes_eq}
 use Rattle.book_core.specs.History.{Base, is_full, reply, total_size}
 use Rattle.book_core.specs.declared.events.Entry.{Entry}

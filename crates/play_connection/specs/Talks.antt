@@ -1,5 +1,5 @@
 -- A connection, message by message.
-use Rattle.std.specs.Prelude.{◌≡◌, ℕ, ◌+◌, Bool, true, false, List, [], ◌∷◌, ◌++◌, Option, Some, None, Result, Ok, Err, ⊥}
+use Rattle.std.specs.Prelude.{◌≡◌, ℕ, ◌+◌, Bool, true, false, List, [], ◌∷◌, ◌++◌, Option, Some, None, Result, Ok, Err}
 use Rattle.book_core.specs.History.{Base}
 use Rattle.book_core.specs.declared.events.Entry.{Entry}
 use Rattle.call_facts.specs.declared.request.Request.{Request}

@@ -83,7 +83,8 @@ fn text_answer(alloc: Global, rendered: Text) -> Result<Answer, Memory>
     })
 }
 
-fn nothing_found(alloc: Global) -> Found
+/// A text API has no resources, so nothing is found of a path.
+pub fn nothing_found(alloc: Global) -> Found
     ensures { result ≡ nothing_found_of }
 {
     Found {

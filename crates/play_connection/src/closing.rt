@@ -7,7 +7,7 @@ ghost use Rattle.play_connection.specs.Closing.{is_blank as is_blank_of, without
 use call_facts::Request;
 use gateway_vars::header_value;
 use gw_base::Memory;
-use std::alloc::Global;
+use std::alloc::{AllocError, Global};
 
 /// The most messages of a connection.
 const MOST_MESSAGES: u32 = 1000;
@@ -48,10 +48,10 @@ fn is_close(element: &[u8]) -> bool
     rest[..5].eq_ignore_ascii_case(b"close") && are_blank(&rest[5..])
 }
 
-fn elements(alloc: Global, value: &[u8]) -> Result<Vec<&[u8]>, Memory>
+fn elements<'a>(alloc: Global, value: &'a [u8]) -> Result<Vec<&'a [u8]>, AllocError>
     ensures { IfOk result (λ parts. map (λ (part : Bor (List ℕ)). part.now) parts.items ≡ slice_split (λ b. b == 44) value.now) }
 {
-    Ok(value.split(|b| *b == b',').collect(alloc)?)
+    value.split(|b| *b == b',').collect(alloc)
 }
 
 fn any_close(elements: &[&[u8]]) -> bool

@@ -1,5 +1,6 @@
 // The bytes of a connection in memory.
-ghost use Rattle.std.specs.Prelude.{◌≡◌};
+ghost use Rattle.std.specs.Prelude.{◌≡◌, ◌≢◌, []};
+ghost use Rattle.std.specs.Bool.{MatchBool};
 
 use gw_base::{Failed, Source};
 use std::marker::Model;
@@ -24,6 +25,13 @@ impl<'a> Feed<'a> {
         ensures { result ≡ bytes.now }
     {
         Feed { left: bytes }
+    }
+
+    /// Whether nothing is left.
+    pub fn is_empty(&self) -> bool
+        ensures { MatchBool result (self.now ≡ []) (self.now ≢ []) }
+    {
+        self.left.is_empty()
     }
 }
 

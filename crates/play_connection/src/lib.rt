@@ -33,5 +33,7 @@ pub mod laws;
 mod serving;
 mod talk;
 
+pub use answering::nothing_found;
 pub use ended::{Ended, Fullness};
+pub use feed::Feed;
 pub use talk::{Talk, connect};

@@ -1,12 +1,12 @@
 use Rattle.std.proofs.Common.{◌≡◌, ◌≤◌, ◌+◌, length}
 use Rattle.gateway_cli.specs.Coding.{lines_of}
-use Rattle.gateway_cli.specs.Play.{base_of, played_within}
+use Rattle.gateway_cli.specs.Play.{base_of}
 use Rattle.gateway_cli.proofs.Playing.{Playing}
 use Rattle.gateway_cli.proofs.play.play_within.Given as goal
 
 abbrev pub invariant-lines : goal.invariant-lines
 invariant-lines g l = record {
-  playing : Playing l.book.base.limits (g.W.Sink.written l.fn.output) (g.W.Sink.written l.output) l.number l.book.history (lines_of l.rest) (played_within l.fn.limits l.script);
+  playing : Playing l.fn.limits (lines_of l.script) (g.W.Sink.written l.fn.output) (g.W.Sink.written l.output) l.number l.book.history (lines_of l.rest);
   base : l.book.base ≡ base_of l.fn.limits;
   count : l.number + length l.rest ≤ length l.script + 1;
   later : g.W.Sink.faults l.fn.output ≤ g.W.Sink.faults l.output;

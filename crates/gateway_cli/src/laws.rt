@@ -1,0 +1,12 @@
+// What holds of the outcome of the program.
+ghost use Rattle.gateway_cli.specs.Commands.{HasOneOutcome, FrontsAreOfTheOutcome};
+
+/// The words, the input and the files come to one outcome.
+pub fn there_is_one_outcome()
+    ensures { HasOneOutcome }
+{}
+
+/// What is written where the program is cut short is a front of the outcome.
+pub fn a_front_is_of_the_outcome()
+    ensures { FrontsAreOfTheOutcome }
+{}

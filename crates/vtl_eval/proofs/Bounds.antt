@@ -1,9 +1,9 @@
 -- The bytes of all texts made.
-use Rattle.std.proofs.Common.{◌≡◌, ℕ, ◌+◌, ◌-◌, ◌^◌, ◌≤◌, ◌<◌, min, sym, ◌∙◌, ap, arith, true, false, List, ◌++◌, ◌∷◌, length, inl, inr}
+use Rattle.std.proofs.Common.{◌≡◌, ℕ, ◌+◌, ◌-◌, ◌^◌, ◌≤◌, ◌<◌, min, sym, ◌∙◌, ap, arith, List, ◌++◌, ◌∷◌, length, inl, inr}
 use Rattle.std.proofs.lemmas.Int.{clamps}
 use Rattle.std.proofs.lemmas.Bool.{lt-leb, cases_lt}
 use Rattle.std.proofs.lemmas.List.{length-append}
-use Rattle.std.specs.Prelude.{nat_le, if◌then◌else◌, Ok, Err}
+use Rattle.std.specs.Prelude.{if◌then◌else◌, Ok, Err}
 use Rattle.vtl_values.specs.Val.{Val}
 use Rattle.vtl_values.specs.Printed.{printed}
 use Rattle.vtl_eval.specs.World.{Scene, make, most_made}

@@ -1,10 +1,10 @@
 -- What is known in the middle of a loop.
-use Rattle.std.proofs.Common.{◌≡◌, ℕ, List, [], ◌∷◌, ◌++◌, refl, ap, ◌∙◌, sym}
+use Rattle.std.proofs.Common.{◌≡◌, List, [], ◌∷◌, ◌++◌, ap, ◌∙◌, sym}
 use Rattle.std.specs.Prelude.{Ok, Err}
 use Rattle.std.proofs.lemmas.List.{append_assoc, append-nil}
 use Rattle.vtl_values.specs.Val.{Val}
 use Rattle.vtl_values.specs.Printed.{printed}
-use Rattle.vtl_eval.specs.World.{Outcome, ◌>>=◌}
+use Rattle.vtl_eval.specs.World.{Outcome}
 use Rattle.vtl_eval.specs.Evaluated.{all_printed}
 
 -- more before what is still to come

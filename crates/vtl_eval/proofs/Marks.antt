@@ -1,9 +1,8 @@
 -- The rows of marks.
-use Rattle.std.proofs.Common.{◌≡◌, ◌+◌, ◌<◌, ℕ, zero, suc, List, [], ◌∷◌, ◌++◌, ◌≤◌, length, map, drop, get_or, Bool, true, false, Option, Some, None, refl, sym, ap, ◌∙◌, arith, ◌⊎◌, inl, inr}
+use Rattle.std.proofs.Common.{◌≡◌, ◌+◌, ◌<◌, ℕ, zero, suc, List, [], ◌∷◌, ◌++◌, ◌≤◌, length, map, drop, get_or, Bool, false, Option, Some, None, refl, sym, ap, ◌∙◌, arith, ◌⊎◌, inl, inr}
 use Rattle.std.specs.Prelude.{slice_get, option_and_then}
 use Rattle.std.specs.Global.{Vec}
 use Rattle.std.proofs.lemmas.List.{append_assoc, append-nil}
-use Rattle.vtl_grammar.specs.Calls.{Macro}
 use Rattle.vtl_words.specs.Names.{place_of}
 use Rattle.vtl_reader.specs.Nodes.{Nodes, item_of}
 use Rattle.vtl_reader.specs.Macros.{Listed, defines, macros_by}

@@ -1,5 +1,5 @@
 -- Items before items, and calls that do nothing.
-use Rattle.std.proofs.Common.{◌≡◌, ℕ, zero, suc, List, [], ◌∷◌, refl, sym, ap, ◌∙◌, Bool, true, false, Ok, Err, Option, Some, None}
+use Rattle.std.proofs.Common.{◌≡◌, ℕ, zero, suc, List, refl, ap, ◌∙◌, Bool, true, false, Ok, Err, Option, Some, None}
 use Rattle.std.specs.Prelude.{◌&&◌}
 use Rattle.vtl_grammar.specs.Tree as tree
 use Rattle.vtl_grammar.specs.Tree.{Exprs, Item, Items}

@@ -1,5 +1,5 @@
 -- References in expressions, in strings and in text.
-use Rattle.std.proofs.Common.{◌≡◌, ℕ, List, refl, sym, ◌∙◌, ap, Result, Ok, Err}
+use Rattle.std.proofs.Common.{◌≡◌, ℕ, List, refl, sym, ◌∙◌, ap, Ok, Err}
 use Rattle.vtl_grammar.specs.Tree.{Base, Steps, reference, printed, output}
 use Rattle.vtl_values.specs.Val.{Val}
 use Rattle.vtl_eval.specs.Roots.{Meanings, Kept}

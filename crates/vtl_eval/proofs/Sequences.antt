@@ -1,5 +1,5 @@
 -- Items and branches one after another, and calls.
-use Rattle.std.proofs.Common.{◌≡◌, ℕ, zero, suc, ◌+◌, ◌-◌, ◌*◌, ◌<◌, ◌≤◌, mul-suc, List, [], ◌∷◌, length, drop, get_or, refl, sym, ◌∙◌, ap, subst, Bool, true, false, Option, Some, None, Result, Ok, Err, arith, if◌then◌else◌}
+use Rattle.std.proofs.Common.{◌≡◌, ℕ, zero, suc, ◌+◌, ◌-◌, ◌*◌, ◌<◌, ◌≤◌, mul-suc, List, [], ◌∷◌, length, drop, get_or, refl, sym, ◌∙◌, ap, subst, Bool, true, false, Option, Some, None, Ok, Err, arith, if◌then◌else◌}
 use Rattle.std.specs.Prelude.{nat_lt, ◌&&◌}
 use Rattle.std.specs.List.{list_all, AllByRecursion}
 use Rattle.std.proofs.lemmas.Bool.{lt-ltb}
@@ -12,10 +12,9 @@ use Rattle.vtl_reader.specs.declared.nodes.Branch.{Branch}
 use Rattle.vtl_values.specs.Val.{Val}
 use Rattle.vtl_values.specs.Truth.{is_true}
 use Rattle.vtl_eval.specs.Roots.{Meanings, Kept}
-use Rattle.vtl_eval.specs.World.{State, Outcome, ◌>>=◌}
+use Rattle.vtl_eval.specs.World.{State, ◌>>=◌}
 use Rattle.vtl_eval.specs.Meaning.{value, run, chosen, after}
 use Rattle.vtl_eval.specs.Views.{Fails}
-use Rattle.vtl_eval.specs.declared.stop.Ended.{Ended}
 use Rattle.vtl_eval.specs.declared.stop.Ended.TheVariants.{Ran, Broke, Stopped}
 use Rattle.vtl_eval.specs.declared.stop.Limit.TheVariants.{Depth}
 use Rattle.vtl_eval.specs.declared.stop.Fail.{Fail}

@@ -1,8 +1,8 @@
 -- What a template renders to, what it costs, and where it stops.
-use Rattle.std.specs.Prelude.{ℕ, zero, suc, ◌+◌, Bool, true, false, not, List, [], ◌∷◌, ◌++◌, length, if◌then◌else◌, Option, Some, None, Result, Ok, Err}
+use Rattle.std.specs.Prelude.{ℕ, suc, Bool, true, false, not, List, [], ◌∷◌, ◌++◌, length, if◌then◌else◌, Option, Some, None, Result, Ok, Err}
 use Rattle.vtl_grammar.specs.Tree as tree
 use Rattle.vtl_grammar.specs.Tree.{Operator, or_, and_, equal, unequal, less, greater, at_most, at_least, plus, minus, times, divided, remainder, Expr, Base, Step, Steps, Exprs, Pairs, Part, Parts, Target, Item, Items, Branches}
-use Rattle.vtl_values.specs.Val.{Val, null, boolean, whole, text, string_bytes}
+use Rattle.vtl_values.specs.Val.{Val, boolean, whole, text, string_bytes}
 use Rattle.vtl_values.specs.Truth.{is_null, is_true}
 use Rattle.vtl_values.specs.Printed.{printed}
 use Rattle.vtl_values.specs.Operations as values
@@ -241,7 +241,7 @@ abbrev mutual
   meaning b m tree.stop s = do
     u ← spent b s
     Ok (Stopped, u.1)
-  -- definitions do nothing; calls stand in no expanded tree
+  -- definitions do nothing; neither they nor calls stand in an expanded tree
   meaning b m (tree.define x ps is) s = Ok (Ran, s)
   meaning b m (tree.macro_call at x es) s = Ok (Ran, s)
   meaning b m tree.deep s = Err (Depth, s.1)

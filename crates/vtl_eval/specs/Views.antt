@@ -1,9 +1,9 @@
 -- What the program's values say.
-use Rattle.std.specs.Prelude.{◌≡◌, ℕ, ◌+◌, List, [], ◌∷◌, map, bytes_eq, if◌then◌else◌, Result, Ok, Err}
+use Rattle.std.specs.Prelude.{◌≡◌, ℕ, ◌+◌, List, [], ◌∷◌, bytes_eq, if◌then◌else◌, Result, Ok, Err}
 use Rattle.std.specs.String.{string_bytes}
 use Rattle.vtl_values.specs.Val.{Val, null}
 use Rattle.vtl_eval.specs.Roots.{Stepped, name, place, method, Kept}
-use Rattle.vtl_eval.specs.World.{Scene, State, Outcome}
+use Rattle.vtl_eval.specs.World.{Scene, Outcome}
 use Rattle.vtl_eval.specs.References.{Reached, at_value, at_root, at_context, at_loop}
 use Rattle.vtl_eval.specs.declared.roots.Step.{Step}
 use Rattle.vtl_eval.specs.declared.roots.Step.TheVariants as steps

@@ -14,13 +14,21 @@
 //! | `$!x\|$x\|${x}y` | `\|$x\|${x}y`: a null reference prints its source, a quiet one nothing |
 //! | `#set($a=7/2)$a#set($b=7/0)$b` | `3$b` |
 //! | `#foreach($i in [1..1001]).#end` | 1,000 dots: a loop has at most 1,000 turns |
+//! | `#macro(m $p)$p#set($i=2)$p#end#set($i=1)#m($i)` | `12`: an argument is evaluated at each use |
+//! | `#macro(m $p)$p#end#m($none)` | `$p`: a null parameter prints its own source |
+//! | `#macro(m)#m()#end#m()` | `Err(Depth)`, at the call inside twenty bodies |
 //! | a template of 1,000,001 steps, within 1,000,000 | `Err(Steps)`, before the last |
 //! | `$input.body$input.body`, whose body has 6,000,000 letters | `Err(Bytes)`, at the second reference |
 //!
-//! What is promised, for every template without macros and every `Roots`: the text, the steps and what is written below
-//! `$context` are those that the definition of rendering gives (`specs/Meaning.antt`), or the stop is the limit that it
-//! meets first, with what was written before; and the roots mean what they meant. Evaluation recurses no deeper than
-//! brackets and blocks nest, which a template's reader holds to 64 levels: chains of operators, steps and items are loops.
+//! What is promised, for every template and every `Roots`: the text, the steps and what is written below `$context` are
+//! those that the definition of rendering gives (`specs/Meaning.antt`), or the stop is the limit that it meets first, with
+//! what was written before; and the roots mean what they meant. The definition speaks of the tree without macros
+//! (`specs/Expanded.antt` of `vtl_grammar`): in place of each call its macro's body, with the arguments' expressions in
+//! place of the parameters. Nothing is substituted here: a body is run in a `Frame` that points to the arguments in the
+//! frame of the call, and a call whose whole body does nothing is passed over, which changes nothing
+//! ([`laws::passing_over_changes_nothing`]). Evaluation recurses no deeper than brackets and blocks nest, which a
+//! template's reader holds to 64 levels, in each of at most twenty macro bodies: chains of operators, steps and items are
+//! loops.
 //!
 //! Not promised: how long it takes. A variable is found by its name from the first that was set on.
 #![tactic(auto)]
@@ -38,6 +46,8 @@ mod rendering;
 mod roots;
 mod run;
 mod stop;
+#[cfg(test)]
+mod tests;
 
 pub use rendering::render;
 pub use roots::{Root, Roots, Step};

@@ -38,7 +38,8 @@ pub fn render<R: Roots>(
     roots: &mut R,
     budget: u64,
 ) -> Result<Rendered, Stop>
-    // The text, its cost, and what is written; or the limit that is met first, and what is written before.
+    // The text, its cost, and what is written, as the tree without macros is run; or the limit that is met first, and
+    // what is written before.
     ensures made { IfOk result (λ r. rendering budget (R.meanings roots.old) (expanded (tree_of template.now)) (R.kept roots.old) ≡ Ok (r, R.kept roots.new)) }
     ensures stop { IfErr result (λ e. e ≢ Stop.Memory → rendering budget (R.meanings roots.old) (expanded (tree_of template.now)) (R.kept roots.old) ≡ Err (e, R.kept roots.new)) }
 

@@ -1,5 +1,5 @@
 -- A text that is read is a template.
-use Rattle.std.proofs.Common.{◌≡◌, ◌≤◌, ℕ, List, [], ◌∷◌, length, refl, subst, Bool, true, false}
+use Rattle.std.proofs.Common.{◌≡◌, ◌≤◌, ℕ, List, length, refl, subst, Bool, true, false}
 use Rattle.std.specs.Prelude.{nat_lt, Option, Some, None, Result, Ok, Err}
 use Rattle.std.proofs.lemmas.Bool.{ltb-false}
 use Rattle.vtl_grammar.specs.declared.fault.Fault.{Fault}

@@ -1,5 +1,5 @@
 -- The macros of a template, and the calls that have none.
-use Rattle.std.specs.Prelude.{ℕ, suc, Bool, true, false, List, length, Option, Some, None, ◌==◌, bytes_eq, if◌then◌else◌}
+use Rattle.std.specs.Prelude.{ℕ, suc, List, length, Option, Some, None, ◌==◌, bytes_eq, if◌then◌else◌}
 use Rattle.vtl_grammar.specs.Tree.{Exprs, no_exprs, expr, Item, Items, Branches, text, comment, output, set, choose, foreach, break_, stop, define, macro_call, deep, no_items, item, otherwise, branch}
 
 -- what a macro's name stands for: its parameters and its body

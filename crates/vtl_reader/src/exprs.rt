@@ -651,7 +651,9 @@ fn read_arguments<'a>(
     let mut fuel = u64::from(many) + 1;
     while fuel > 0 {
         fuel -= 1;
-        let (next, behind) = match read_argument(alloc, names, arena, inner, at, needed, allowed, rest) {
+        let (next, behind) = match read_argument(
+            alloc, names, arena, inner, at, needed, allowed, rest,
+        ) {
             Ok(p) => p,
             Err(e) => return Err(e),
         };
@@ -702,7 +704,9 @@ fn read_inside_call<'a>(
         Err(e) => return Err(e),
     };
     read_arguments(
-        alloc, names, arena,
+        alloc,
+        names,
+        arena,
         inner,
         at,
         few.saturating_sub(1),
@@ -882,7 +886,9 @@ fn read_dollar<'a>(
         } => (braced, name, rest),
     };
     let (steps, rest) = match read_steps_at(
-        alloc, names, arena,
+        alloc,
+        names,
+        arena,
         level,
         dots_in(how, braced),
         braced,
@@ -926,7 +932,9 @@ fn read_part<'a>(
             rest,
         } => {
             let (steps, rest) = match read_steps_at(
-                alloc, names, arena,
+                alloc,
+                names,
+                arena,
                 level,
                 dots_out(braced),
                 braced,

@@ -69,7 +69,9 @@ fn read_output<'a>(
     ensures stands { IfOk result (λ t. TurnStands arena.new t) }
 {
     let (steps, rest) = match read_steps_at(
-        alloc, names, arena,
+        alloc,
+        names,
+        arena,
         level,
         dots_out(braced),
         braced,
@@ -340,7 +342,9 @@ fn read_if<'a>(
         params: around.params,
     };
     let (branches, otherwise, line, rest) = match read_branches(
-        alloc, names, arena,
+        alloc,
+        names,
+        arena,
         level - 1,
         &inside,
         bs.len() + 1,
@@ -460,7 +464,9 @@ fn read_directive<'a>(
         Word::Refused => Err(ReadError::Met(Fault::BadDirective(at))),
         Word::Else => read_stop(arena, around, defined, text, line, at, true, bs),
         Word::End => read_stop(arena, around, defined, text, line, at, false, bs),
-        Word::ElseIf => read_elseif(alloc, names, arena, level, around, defined, text, line, at, bs),
+        Word::ElseIf => read_elseif(
+            alloc, names, arena, level, around, defined, text, line, at, bs,
+        ),
         Word::Break => {
             if !around.looping {
                 return Err(ReadError::Met(Fault::BadDirective(at)));
@@ -474,8 +480,12 @@ fn read_directive<'a>(
             let (line, rest) = end_directive(line, text, bs);
             Ok(ItemTurn::Item(k, line, rest))
         }
-        Word::Set => read_set(alloc, names, arena, level, around, defined, text, line, at, bs),
-        Word::If => match read_if(alloc, names, arena, level, around, defined, text, line, at, bs) {
+        Word::Set => read_set(
+            alloc, names, arena, level, around, defined, text, line, at, bs,
+        ),
+        Word::If => match read_if(
+            alloc, names, arena, level, around, defined, text, line, at, bs,
+        ) {
             Ok(turn) => Ok(turn),
             Err(e) => Err(closed_at(at, e)),
         },
@@ -489,7 +499,9 @@ fn read_directive<'a>(
             if around.place != Place::Top {
                 return Err(ReadError::Met(Fault::BadDirective(at)));
             }
-            match read_macro(alloc, names, arena, level, around, defined, text, line, at, bs) {
+            match read_macro(
+                alloc, names, arena, level, around, defined, text, line, at, bs,
+            ) {
                 Ok(turn) => Ok(turn),
                 Err(e) => Err(closed_at(at, e)),
             }
@@ -544,7 +556,9 @@ fn read_item<'a>(
             Ok(ItemTurn::Item(k, None, rest))
         }
         Front::Directive(word, rest) => read_directive(
-            alloc, names, arena,
+            alloc,
+            names,
+            arena,
             level,
             around,
             defined,
@@ -611,7 +625,9 @@ pub fn read_items<'a>(
         fuel -= 1;
         let mut text = Vec::new(alloc);
         let turn = match read_turn(
-            alloc, names, arena,
+            alloc,
+            names,
+            arena,
             level,
             around,
             &mut defined,

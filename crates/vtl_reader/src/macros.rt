@@ -119,13 +119,7 @@ fn wrong_of(arena: &Arena, macros: &Macros, at: usize, name: &[u8], n: usize) ->
     ensures { result ≡ wrong_of_spec at n (macros_by arena.now macros.now name.now) }
 {
     match macro_named(arena, macros, name) {
-        Some((params, _)) => {
-            if params.len() == n {
-                None
-            } else {
-                Some(at)
-            }
-        }
+        Some((params, _)) => { if params.len() == n { None } else { Some(at) } }
         None => Some(at),
     }
 }

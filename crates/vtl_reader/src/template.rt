@@ -49,11 +49,7 @@ impl Model for Template {
 }
 
 // The items of a whole text whose macros have these names, or its first fault.
-fn read_whole(
-    alloc: Global,
-    names: &Names,
-    bytes: &[u8],
-) -> Result<(Arena, Vec<usize>), ReadError>
+fn read_whole(alloc: Global, names: &Names, bytes: &[u8]) -> Result<(Arena, Vec<usize>), ReadError>
     ensures gives { Gives (λ p. items_made (item_of p.0) p.1.items) result (whole names.now 64 bytes.now) }
     ensures below { IfOk result (λ p. AllBelow (length p.0.items) p.1.items) }
 {

@@ -1,11 +1,11 @@
-use Rattle.std.proofs.Common.{◌≡◌, ◌∙◌, ap, sym, rules, length, Some, None, Bool, true}
+use Rattle.std.proofs.Common.{◌≡◌, ◌∙◌, ap, sym, rules, length, Bool}
 use Rattle.std.specs.Prelude.{Option, option_map, nat_lt, ◌&&◌}
 use Rattle.std.specs.List.{list_all}
 use Rattle.vtl_grammar.specs.Tree.{Expr}
 use Rattle.vtl_grammar.specs.Expanded.{Arguments, arguments, expr_with, exprs_with}
 use Rattle.vtl_words.specs.Names.{place_of}
 use Rattle.vtl_reader.specs.Nodes.{expr_of, exprs_made}
-use Rattle.vtl_eval.specs.Frames.{arguments_of, is_sound, placed_in}
+use Rattle.vtl_eval.specs.Frames.{arguments_of, is_sound}
 use Rattle.vtl_eval.specs.declared.frame.Frame.{Frame}
 use Rattle.vtl_eval.specs.declared.frame.Frame as source
 use Rattle.vtl_eval.specs.declared.frame.Frame.TheFolds.{the_lemmas}

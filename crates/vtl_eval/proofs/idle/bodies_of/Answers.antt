@@ -1,4 +1,4 @@
-use Rattle.std.proofs.Common.{◌≡◌, arith, map, length}
+use Rattle.std.proofs.Common.{arith}
 use Rattle.vtl_reader.specs.Nodes.{item_of}
 use Rattle.vtl_reader.specs.Macros.{defines}
 use Rattle.vtl_eval.specs.Idle.{idle_body, by_place, holds}

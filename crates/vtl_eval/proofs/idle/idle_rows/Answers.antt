@@ -1,4 +1,4 @@
-use Rattle.std.proofs.Common.{◌≡◌, ◌∙◌, ap, sym, arith, rules, length, map, suc, ◌+◌, ◌<◌, ℕ, Bool}
+use Rattle.std.proofs.Common.{◌≡◌, ◌∙◌, ap, sym, arith, rules, length, map, suc, ◌+◌, ℕ, Bool}
 use Rattle.vtl_reader.specs.Nodes.{item_of}
 use Rattle.vtl_reader.specs.Macros.{defines, macros_by}
 use Rattle.vtl_eval.specs.Idle.{idle_call, idle_body, by_place, holds, row_at}

@@ -1,7 +1,7 @@
 use Rattle.std.proofs.Common.{rules, arith, ap, sym, subst, ◌≡◌, ◌∙◌, ◌<◌, ◌+◌, ◌*◌, ◌-◌, ℕ, Ok, length}
 use Rattle.std.specs.Prelude.{nat_lt, ◌&&◌}
 use Rattle.std.specs.List.{list_all}
-use Rattle.vtl_grammar.specs.Tree.{Item, Items, named, output, choose}
+use Rattle.vtl_grammar.specs.Tree.{Item, named, output, choose}
 use Rattle.vtl_grammar.specs.Calls.{Macro}
 use Rattle.vtl_grammar.specs.Expanded.{arguments, base_with, exprs_with, steps_with, items_with, items_without, called}
 use Rattle.vtl_reader.specs.Nodes.{expr_of, exprs_made, steps_made, item_of, item_made, items_made, branches_made, BranchBelow}

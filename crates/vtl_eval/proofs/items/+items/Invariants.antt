@@ -1,4 +1,4 @@
-use Rattle.std.proofs.Common.{◌≡◌, ◌+◌, ◌-◌, ◌*◌, drop, length}
+use Rattle.std.proofs.Common.{◌≡◌, ◌+◌, ◌*◌, drop, length}
 use Rattle.vtl_reader.specs.Nodes.{expr_of, item_of, items_made, branches_made, AllBelow, BranchesBelow}
 use Rattle.vtl_values.specs.Parts.{loop_items}
 use Rattle.vtl_eval.specs.Meaning.{run, chosen, turns}

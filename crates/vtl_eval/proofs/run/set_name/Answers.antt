@@ -1,5 +1,4 @@
 use Rattle.std.proofs.Common.{rules, ap, ◌∙◌, ◌++◌, ◌∷◌, []}
-use Rattle.vtl_eval.specs.World.{Scene}
 use Rattle.vtl_eval.specs.Views.{scene_of, names_of}
 use Rattle.vtl_eval.proofs.Names.{names_set, names_push}
 use Rattle.vtl_eval.proofs.run.set_name.Goals as goal

@@ -1,4 +1,4 @@
-use Rattle.std.proofs.Common.{◌≡◌, ◌∙◌, ap, sym, arith, Ok, length, ◌<◌, map}
+use Rattle.std.proofs.Common.{◌∙◌, ap, sym, arith, Ok, length, ◌<◌, map}
 use Rattle.vtl_grammar.specs.Tree.{expr, no_exprs}
 use Rattle.vtl_grammar.specs.Expressions.{reader, inside}
 use Rattle.vtl_grammar.specs.Directives.{call_turn}

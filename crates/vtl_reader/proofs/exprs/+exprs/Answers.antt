@@ -1,4 +1,4 @@
-use Rattle.std.proofs.Common.{◌≡◌, ◌∙◌, ap, sym, rules, arith, Ok, [], length, ◌<◌, ◌-◌}
+use Rattle.std.proofs.Common.{◌≡◌, ◌∙◌, ap, sym, rules, arith, Ok, length, ◌<◌, ◌-◌}
 use Rattle.std.specs.Prelude.{map, false}
 use Rattle.vtl_grammar.specs.Tree.{expr, step, part, listed, no_exprs, no_steps, no_parts, no_pairs}
 use Rattle.vtl_grammar.specs.Expressions.{reader, inside}

@@ -1,4 +1,4 @@
-use Rattle.std.proofs.Common.{◌≡◌, ◌+◌, ◌-◌, ◌*◌, [], length, map}
+use Rattle.std.proofs.Common.{◌≡◌, ◌+◌, ◌-◌, ◌*◌, length, map}
 use Rattle.vtl_grammar.specs.Tree.{expr, step, part}
 use Rattle.vtl_grammar.specs.Loops.{first, gather}
 use Rattle.vtl_grammar.specs.Expressions.{operand, ranked, links, inside, reader}

@@ -1,4 +1,4 @@
-use Rattle.std.proofs.Common.{◌≡◌, ◌≤◌, ℕ, List, length, drop}
+use Rattle.std.proofs.Common.{◌≡◌, ℕ, List, drop}
 use Rattle.vtl_grammar.specs.Calls.{first_of, macros_in}
 use Rattle.vtl_reader.specs.Nodes.{item_of, items_made}
 use Rattle.vtl_reader.specs.Macros.{macros_by, AreListed}

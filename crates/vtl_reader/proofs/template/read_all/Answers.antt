@@ -1,4 +1,4 @@
-use Rattle.std.proofs.Common.{◌≡◌, ◌∙◌, ap, sym, rules, Ok, ℕ, Some, None}
+use Rattle.std.proofs.Common.{◌≡◌, ◌∙◌, ap, sym, rules, Ok, Some, None}
 use Rattle.vtl_grammar.specs.Faults.{◌>>=◌}
 use Rattle.vtl_grammar.specs.Macros.{macro_names}
 use Rattle.vtl_grammar.specs.Calls.{macros_in, wrong_calls}

@@ -1,4 +1,4 @@
-use Rattle.std.proofs.Common.{ap, arith, rules, length, [], ◌+◌}
+use Rattle.std.proofs.Common.{ap, arith, rules, length, ◌+◌}
 use Rattle.vtl_grammar.specs.Fronts.{text_run}
 use Rattle.vtl_reader.proofs.Running.{at_plain, at_raw, at_end, at_other, start_line, small_line, next_line}
 use Rattle.vtl_reader.proofs.text.text_run.Goals as goal

@@ -1,5 +1,4 @@
-use Rattle.std.proofs.Common.{◌++◌, arith}
-use Rattle.vtl_grammar.specs.Macros.{scan}
+use Rattle.std.proofs.Common.{arith}
 use Rattle.vtl_words.proofs.Scanning.{at_done, at_passed, at_found, at_end}
 use Rattle.vtl_words.proofs.macros.macro_names.Goals as goal
 

@@ -1,4 +1,4 @@
-use Rattle.std.proofs.Common.{◌≡◌, ◌∙◌, ap, sym, subst, rules, Ok, Err, ℕ, List}
+use Rattle.std.proofs.Common.{◌≡◌, ◌∙◌, ap, sym, subst, rules, Ok, Err}
 use Rattle.std.specs.Prelude.{Result}
 use Rattle.vtl_grammar.specs.declared.fault.TemplateFault.{TemplateFault}
 use Rattle.vtl_grammar.specs.Tree.{Items}

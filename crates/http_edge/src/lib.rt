@@ -20,3 +20,6 @@ pub use incoming::Incoming;
 pub use message::next_message;
 pub use refusal::{busy_answer, edge_answer};
 pub use reply::next_reply;
+
+#[cfg(test)]
+mod tests;

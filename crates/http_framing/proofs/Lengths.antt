@@ -1,9 +1,8 @@
 -- What is said field by field is what the fields that say something of the length say together.
-use Rattle.std.proofs.Common.{arith, ◌≡◌, ◌≢◌, ℕ, ◌+◌, Bool, true, false, ◌&&◌, ◌||◌, not, cond, List, [], ◌∷◌, length, refl, sym, ap, ◌∙◌, if◌then◌else◌, codes, inl, inr}
-use Rattle.std.specs.Prelude.{bytes_eq, nat_le, nat_lt}
+use Rattle.std.proofs.Common.{arith, ◌≡◌, ◌≢◌, ℕ, ◌+◌, Bool, true, false, ◌&&◌, ◌||◌, not, cond, List, [], ◌∷◌, length, refl, ap, ◌∙◌, if◌then◌else◌, codes}
+use Rattle.std.specs.Prelude.{bytes_eq}
 use Rattle.std.specs.List.{filter}
-use Rattle.std.proofs.lemmas.Bool.{cases_Bool}
-use Rattle.http_framing.specs.Framings.{Header, eq_ignore_case, is_number, known_length, is_named, is_length, length_said, said_by, lengths_said, hosts, joined}
+use Rattle.http_framing.specs.Framings.{Header, eq_ignore_case, known_length, is_named, is_length, length_said, said_by, lengths_said, hosts, joined}
 use Rattle.http_framing.specs.declared.framing.Framing.{Framing}
 use Rattle.http_framing.specs.declared.framing.Framing.TheVariants.{TooMany, Wrong, Absent, Known, Chunked}
 

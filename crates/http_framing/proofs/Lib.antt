@@ -10,3 +10,4 @@ pub mod Steps
 pub mod Unique
 pub mod BodyUnique
 pub mod Lengths
+pub mod TrailerLines

@@ -1,5 +1,5 @@
 -- How a head says where its body ends (RFC 9112, sections 3.2, 6.1 to 6.3).
-use Rattle.std.specs.Prelude.{ℕ, ◌+◌, ◌^◌, Bool, not, ◌&&◌, ◌||◌, List, [], ◌∷◌, map, length, if◌then◌else◌, nat_lt, nat_le, ◌==◌, codes, bytes_eq}
+use Rattle.std.specs.Prelude.{ℕ, ◌^◌, Bool, not, ◌&&◌, ◌||◌, List, [], ◌∷◌, map, length, if◌then◌else◌, nat_lt, nat_le, ◌==◌, codes, bytes_eq}
 use Rattle.std.specs.List.{list_all, filter}
 use Rattle.std.specs.Char.{is_ascii_digit, to_ascii_lowercase}
 use Rattle.std.specs.Str.Parse.{digits_value}

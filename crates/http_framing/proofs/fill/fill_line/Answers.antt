@@ -1,4 +1,4 @@
-use Rattle.std.proofs.Common.{rules, arith}
+use Rattle.std.proofs.Common.{rules}
 use Rattle.http_framing.proofs.Overs.{takes_both}
 use Rattle.http_framing.proofs.fill.fill_line.Goals as goal
 

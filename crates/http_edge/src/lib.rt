@@ -67,4 +67,6 @@ pub use refusal::{busy_answer, edge_answer};
 pub use reply::next_reply;
 
 #[cfg(test)]
+mod tables;
+#[cfg(test)]
 mod tests;

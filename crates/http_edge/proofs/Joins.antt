@@ -1,8 +1,7 @@
 -- A head and its body are a message.
-use Rattle.std.proofs.Common.{arith, ◌≡◌, ℕ, zero, suc, ◌+◌, ◌<◌, ◌≤◌, ◌⊎◌, inl, inr, List, [], ◌∷◌, ◌++◌, length, refl, sym, ap, ◌∙◌, subst, append_assoc, Option, Some, None, Result, Ok, Err}
+use Rattle.std.proofs.Common.{arith, ◌≡◌, ℕ, zero, suc, ◌+◌, inl, inr, List, [], ◌∷◌, ◌++◌, length, refl, sym, ap, ◌∙◌, subst, append_assoc, Option, Some, None, Result, Ok, Err}
 use Rattle.std.proofs.lemmas.List.{length-append}
 use Rattle.httparse.specs.Grammar.{RequestHead, print_request}
-use Rattle.call_facts.specs.declared.request.Request.{Request}
 use Rattle.http_framing.specs.BodyReads.{BodyRead}
 use Rattle.http_framing.specs.Heads.{HasHead, AwaitsHead}
 use Rattle.http_framing.specs.Stream.{Over}
@@ -12,10 +11,9 @@ use Rattle.http_framing.specs.declared.framing.Framing.{Framing}
 use Rattle.http_framing.specs.declared.framing.Framing.TheVariants.{TooMany, Wrong, Absent, Known, Chunked}
 use Rattle.http_framing.specs.declared.fault.EdgeFault.{EdgeFault}
 use Rattle.http_framing.specs.declared.fault.EdgeFault.TheVariants.{BadHead, HeadTooLong, BadChunk, Cut, ReadFault, Memory}
-use Rattle.http_edge.specs.Messages.{IsRequestBody, IsMessage, Stops, Comes, request_of, framing, message_of, rest_of}
+use Rattle.http_edge.specs.Messages.{IsRequestBody, IsMessage, Stops, Comes, message_of, rest_of}
 use Rattle.http_edge.specs.Reads.{IsBegun, HeadRead, ended, told}
 use Rattle.http_edge.specs.declared.incoming.Incoming.{Incoming}
-use Rattle.http_edge.specs.declared.incoming.Incoming.TheVariants.{Whole, TooLarge, End}
 use Rattle.http_edge.specs.declared.request.Begun.{Begun}
 
 -- less than a head may end here

@@ -1,14 +1,13 @@
 -- The request that is made of spans is the one of the head.
-use Rattle.std.proofs.Common.{rules, arith, ◌≡◌, ℕ, ◌<◌, ◌≤◌, Bool, true, false, ◌&&◌, ◌||◌, ◌==◌, List, [], ◌∷◌, All, IsTrue, length, map, refl, sym, ap, ◌∙◌, subst}
+use Rattle.std.proofs.Common.{arith, ◌≡◌, ℕ, ◌<◌, true, List, [], ◌∷◌, All, IsTrue, map, refl, ap, ◌∙◌}
 use Rattle.std.proofs.lemmas.Bool.Decides.{nat_tests}
 use Rattle.std.proofs.lemmas.Str.{IsUtf8-from_ascii, utf8_lossy-IsUtf8}
 use Rattle.std.proofs.lemmas.Str.Ascii.{IsAscii-cons, IsAscii-nil}
 use Rattle.std.proofs.lemmas.List.Elements.{All-head, All-tail}
 use Rattle.std.specs.Str.{IsAscii}
 use Rattle.std.specs.Str.Lossy.{utf8_lossy}
-use Rattle.httparse.specs.Grammar.{is_token_byte, AllPass, Field, IsField, field_value, RequestHead}
+use Rattle.httparse.specs.Grammar.{is_token_byte, AllPass, Field, IsField, field_value}
 use Rattle.httparse.specs.Spans.{name_and_value}
-use Rattle.http_framing.specs.Framings.{Header}
 use Rattle.http_edge.specs.Texts.{header_of, header_texts}
 
 small : (b : ℕ) → is_token_byte b ≡ true → b < 128

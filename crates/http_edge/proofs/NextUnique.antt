@@ -1,12 +1,12 @@
 -- What stands next is one thing, and so are the messages of a stream.
-use Rattle.std.proofs.Common.{arith, ◌≡◌, ℕ, ◌+◌, ◌*◌, ◌<◌, ◌≤◌, ◌⊎◌, inl, inr, List, [], ◌∷◌, ◌++◌, All, IsTrue, length, take, refl, sym, ap, ◌∙◌, subst, append-nil, Result, Ok, Err}
+use Rattle.std.proofs.Common.{arith, ◌≡◌, ℕ, inl, inr, List, [], ◌∷◌, IsTrue, length, refl, sym, ap, ◌∙◌, subst, append-nil, Result, Ok, Err}
 use Rattle.std.specs.Prelude.{OnOk}
 use Rattle.std.proofs.lemmas.List.{length-append}
 use Rattle.std.proofs.lemmas.List.Elements.{All-cons, All-nil}
 use Rattle.httparse.specs.Grammar.{is_token_byte, RequestHead, print_request}
 use Rattle.httparse.proofs.OpenLemmas.{letter_is_token}
 use Rattle.call_facts.specs.declared.request.Request.{Request}
-use Rattle.http_framing.specs.Heads.{HasHead, LacksHead}
+use Rattle.http_framing.specs.Heads.{LacksHead}
 use Rattle.http_framing.specs.declared.body.Body.{Body}
 use Rattle.http_framing.specs.declared.body.Body.TheVariants.{Read, PastLimit}
 use Rattle.http_framing.specs.declared.framing.Framing.{Framing}

@@ -1,10 +1,10 @@
 -- Heads in a row and a body are a reply.
-use Rattle.std.proofs.Common.{arith, ◌≡◌, ℕ, zero, suc, ◌+◌, ◌-◌, ◌<◌, ◌≤◌, ◌⊎◌, inl, inr, Bool, true, false, ◌&&◌, ◌||◌, nat_lt, List, [], ◌∷◌, ◌++◌, length, refl, sym, ap, ◌∙◌, subst, append_assoc, append-nil, Option, Some, None, Result, Ok, Err}
+use Rattle.std.proofs.Common.{arith, ◌≡◌, ℕ, ◌+◌, ◌-◌, ◌≤◌, inl, inr, Bool, true, false, ◌&&◌, ◌||◌, nat_lt, List, [], ◌∷◌, ◌++◌, length, refl, sym, ap, ◌∙◌, subst, append_assoc, Option, Some, None, Result, Ok, Err}
 use Rattle.std.proofs.lemmas.List.{length-append}
 use Rattle.httparse.specs.Grammar.{ResponseHead, print_response, status_code}
 use Rattle.call_facts.specs.declared.request.WireReply.{WireReply}
-use Rattle.http_framing.specs.Bodies.{IsKnown, IsChunked, IsRest}
-use Rattle.http_framing.specs.BodyReads.{BodyRead, RestRead}
+use Rattle.http_framing.specs.Bodies.{IsKnown, IsChunked}
+use Rattle.http_framing.specs.BodyReads.{BodyRead}
 use Rattle.http_framing.specs.Faults.{shifted}
 use Rattle.http_framing.specs.ReplyHeads.{HasReplyHead, LacksReplyHead}
 use Rattle.http_framing.specs.Stream.{Over}
@@ -15,8 +15,8 @@ use Rattle.http_framing.specs.declared.framing.Framing.TheVariants.{TooMany, Wro
 use Rattle.http_framing.specs.declared.fault.EdgeFault.{EdgeFault}
 use Rattle.http_framing.specs.declared.fault.EdgeFault.TheVariants.{BadHead, HeadTooLong, BadChunk, Cut, ReadFault, Memory}
 use Rattle.http_edge.specs.Messages.{counted, rest_of}
-use Rattle.http_edge.specs.Replies.{reply_framing, replied, serves, is_interim, Passes, HasFinalHead, LacksFinalHead, UnlessBare, kept, KeptOf, IsReplyBody, has_none, reply_of, IsReplied, RunsOn, AwaitsReply, Replies}
-use Rattle.http_edge.specs.ReplyReads.{IsReplyBegun, ReplyHeadRead, PassedOver, FinalRead, GoesOn, ReplyBodyRead}
+use Rattle.http_edge.specs.Replies.{reply_framing, replied, serves, is_interim, Passes, HasFinalHead, LacksFinalHead, kept, KeptOf, IsReplyBody, has_none, reply_of, IsReplied, Replies}
+use Rattle.http_edge.specs.ReplyReads.{IsReplyBegun, ReplyHeadRead, PassedOver, FinalRead, ReplyBodyRead}
 use Rattle.http_edge.specs.Statuses.{is_bare}
 use Rattle.http_edge.specs.declared.reply_head.ReplyBegun.{ReplyBegun}
 

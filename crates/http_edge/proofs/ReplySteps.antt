@@ -1,13 +1,12 @@
 -- The steps of reading a reply, over all that is left.
-use Rattle.std.proofs.Common.{arith, ◌≡◌, ◌≢◌, ℕ, zero, suc, ◌+◌, ◌-◌, ◌<◌, ◌≤◌, ◌⊎◌, inl, inr, Bool, true, false, ◌||◌, List, [], ◌∷◌, ◌++◌, length, map, take, drop, take-append-drop, refl, sym, ap, ◌∙◌, subst, append_assoc, append-nil, Option, Some, None, Result, Ok, Err}
+use Rattle.std.proofs.Common.{arith, ◌≡◌, ◌≢◌, ℕ, ◌-◌, ◌≤◌, List, ◌++◌, length, take, drop, take-append-drop, refl, sym, ap, ◌∙◌, subst, append_assoc, Option, Result, Ok, Err}
 use Rattle.std.proofs.lemmas.List.{length-append, length-take, take-append-le, drop-append-le}
-use Rattle.std.specs.Io.KnownBytes.{IsAtEnd}
 use Rattle.httparse.specs.Grammar.{ResponseHead, print_response, ReadsResponse, NeverHasResponse}
 use Rattle.httparse.specs.Spans.{IsResponseAt}
 use Rattle.httparse.specs.declared.spans.HeaderSpan.{HeaderSpan}
 use Rattle.httparse.specs.declared.spans.ResponseSpans.{ResponseSpans}
 use Rattle.http_framing.specs.HeadReads.{ReplyTaken}
-use Rattle.http_framing.specs.ReplyHeads.{HasReplyHead, LacksReplyHead, AwaitsReplyHead, MayBecomeReply}
+use Rattle.http_framing.specs.ReplyHeads.{HasReplyHead, MayBecomeReply}
 use Rattle.http_framing.specs.Stream.{SameBytes, Takes, Over}
 use Rattle.http_framing.specs.declared.fault.EdgeFault.{EdgeFault}
 use Rattle.http_framing.specs.declared.fault.EdgeFault.TheVariants.{BadHead, HeadTooLong, BadChunk, Cut, ReadFault, Memory}

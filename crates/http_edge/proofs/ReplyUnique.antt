@@ -1,20 +1,19 @@
 -- What a reply comes to is one thing.
-use Rattle.std.proofs.Common.{arith, ◌≡◌, ℕ, ◌-◌, ◌⊎◌, inl, inr, Bool, true, false, true≢false, ◌||◌, List, [], ◌∷◌, ◌++◌, length, refl, sym, ap, ◌∙◌, subst, Result, Ok, Err}
+use Rattle.std.proofs.Common.{◌≡◌, ℕ, ◌-◌, inl, inr, Bool, true, false, true≢false, List, [], ◌∷◌, length, refl, sym, ap, ◌∙◌, subst, Result, Ok, Err}
 use Rattle.std.specs.Prelude.{OnOk}
 use Rattle.httparse.specs.Grammar.{ResponseHead, print_response}
 use Rattle.call_facts.specs.declared.request.WireReply.{WireReply}
-use Rattle.http_framing.specs.Bodies.{IsKnown, IsChunked, IsRest}
 use Rattle.http_framing.specs.ReplyHeads.{HasReplyHead, LacksReplyHead}
 use Rattle.http_framing.specs.declared.body.Body.{Body}
 use Rattle.http_framing.specs.declared.body.Body.TheVariants.{Read, PastLimit}
 use Rattle.http_framing.specs.declared.framing.Framing.{Framing}
 use Rattle.http_framing.specs.declared.framing.Framing.TheVariants.{TooMany, Wrong, Absent, Known, Chunked}
 use Rattle.http_framing.specs.declared.fault.EdgeFault.{EdgeFault}
-use Rattle.http_framing.specs.declared.fault.EdgeFault.TheVariants.{BadHead, HeadTooLong, BadChunk}
+use Rattle.http_framing.specs.declared.fault.EdgeFault.TheVariants.{BadHead, HeadTooLong}
 use Rattle.http_framing.proofs.BodyUnique.{Same, on_ok, on_err, known_unique, chunked_unique, rest_unique}
 use Rattle.http_framing.proofs.Unique.{reply_head_unique, lacks_reply_not, lacks_reply_unique}
 use Rattle.http_edge.specs.Messages.{counted, rest_of}
-use Rattle.http_edge.specs.Replies.{reply_framing, is_interim, Passes, HasFinalHead, LacksFinalHead, UnlessBare, kept, KeptOf, IsReplyBody, has_none, reply_of, IsReplied, IsReply}
+use Rattle.http_edge.specs.Replies.{reply_framing, is_interim, Passes, HasFinalHead, LacksFinalHead, kept, IsReplyBody, has_none, reply_of, IsReplied, IsReply}
 
 -- ---- heads
 

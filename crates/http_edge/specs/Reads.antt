@@ -7,7 +7,7 @@ use Rattle.http_framing.specs.Heads.{HasHead, LacksHead, AwaitsHead}
 use Rattle.http_framing.specs.declared.body.Body.{Body}
 use Rattle.http_framing.specs.declared.body.Body.TheVariants.{Read, PastLimit}
 use Rattle.http_framing.specs.declared.fault.EdgeFault.{EdgeFault}
-use Rattle.http_framing.specs.declared.fault.EdgeFault.TheVariants.{BadHead, HeadTooLong, BadChunk, Cut, ReadFault, Memory}
+use Rattle.http_framing.specs.declared.fault.EdgeFault.TheVariants.{Cut, ReadFault, Memory}
 use Rattle.http_edge.specs.Messages.{framing, request_of, with_body}
 use Rattle.http_edge.specs.declared.incoming.Incoming.{Incoming}
 use Rattle.http_edge.specs.declared.incoming.Incoming.TheVariants.{Whole, TooLarge, End}

@@ -1,9 +1,9 @@
 -- What a body comes to is one thing.
-use Rattle.std.proofs.Common.{arith, ◌≡◌, ℕ, ◌+◌, ◌<◌, ◌≤◌, ◌⊎◌, inl, inr, List, [], ◌++◌, length, take, drop, take-append-drop, refl, sym, ap, ◌∙◌, subst, Option, Some, Result, Ok, Err}
+use Rattle.std.proofs.Common.{arith, ◌≡◌, ℕ, ◌+◌, ◌<◌, ◌≤◌, ◌⊎◌, inl, inr, List, ◌++◌, length, take, drop, take-append-drop, refl, sym, ap, ◌∙◌, subst, Option, Some, Result, Ok, Err}
 use Rattle.std.specs.Prelude.{OnOk}
 use Rattle.std.proofs.lemmas.List.{length-append, length-take}
 use Rattle.http_framing.specs.Bodies.{IsKnown, IsChunked, IsRest, Closes}
-use Rattle.http_framing.specs.Chunks.{HasLine, Chunks, content, trailers, LastChunk, PassesLimit}
+use Rattle.http_framing.specs.Chunks.{HasLine, content, trailers, LastChunk, PassesLimit}
 use Rattle.http_framing.specs.declared.body.Body.{Body}
 use Rattle.http_framing.specs.declared.body.Body.TheVariants.{Read, PastLimit}
 use Rattle.http_framing.specs.declared.fault.EdgeFault.{EdgeFault}

@@ -1,11 +1,10 @@
 -- What stands at the front of a chunked body stays there, whatever comes behind it.
-use Rattle.std.proofs.Common.{rules, arith, ◌≡◌, ◌≢◌, ℕ, zero, suc, ◌+◌, ◌-◌, ◌<◌, ◌≤◌, ◌⊎◌, inl, inr, Bool, true, false, ◌&&◌, ◌==◌, cond, List, [], ◌∷◌, ◌++◌, length, take, drop, take-append-drop, refl, sym, ap, ◌∙◌, subst, append_assoc, append-nil, Option, Some, None, Result, Ok, Err}
+use Rattle.std.proofs.Common.{arith, ◌≡◌, ◌≢◌, ℕ, zero, suc, ◌+◌, ◌-◌, ◌≤◌, ◌⊎◌, inl, inr, Bool, true, false, ◌&&◌, ◌==◌, cond, List, [], ◌∷◌, ◌++◌, length, take, drop, take-append-drop, refl, sym, ap, ◌∙◌, subst, append_assoc, Option, Some, None, Ok, Err}
 use Rattle.std.proofs.lemmas.List.{take-append-le, drop-append-le, length-take, length-drop, length-append, drop-drop}
 use Rattle.std.proofs.lemmas.Bool.Decides.{nat_tests}
-use Rattle.std.specs.Io.KnownBytes.{IsAtEnd}
-use Rattle.httparse.specs.Grammar.{ChunkLine, print_chunk_line, chunk_size, ReadsChunkLine, HasNoChunkLine, NeverHasChunkLine}
+use Rattle.httparse.specs.Grammar.{ChunkLine, print_chunk_line, HasNoChunkLine, NeverHasChunkLine}
 use Rattle.httparse.specs.Spans.{IsChunkLineAt}
-use Rattle.http_framing.specs.Chunks.{HasLine, BadLine, AwaitsLine, closing, trailers, trailers_from}
+use Rattle.http_framing.specs.Chunks.{HasLine, BadLine, closing, trailers, trailers_from}
 use Rattle.http_framing.specs.ChunkReads.{LineTaken, LineRead, DataTaken, DataRead, TrailersTaken, TrailersRead}
 use Rattle.http_framing.specs.Stream.{SameBytes, Takes, Over}
 use Rattle.http_framing.specs.declared.chunk.SizeLine.{SizeLine}

@@ -1,14 +1,13 @@
 -- A chunk line and what stands behind it are a chunk; chunks in a row are a body.
-use Rattle.std.proofs.Common.{rules, arith, ◌≡◌, ◌≢◌, ℕ, zero, suc, ◌+◌, ◌-◌, ◌<◌, ◌≤◌, ◌⊎◌, inl, inr, List, [], ◌∷◌, ◌++◌, length, take, drop, refl, sym, ap, ◌∙◌, subst, append_assoc, append-nil, Option, Some, None, Result, Ok, Err}
+use Rattle.std.proofs.Common.{arith, ◌≡◌, ℕ, ◌+◌, ◌<◌, ◌≤◌, inl, inr, List, [], ◌∷◌, ◌++◌, length, refl, sym, ap, ◌∙◌, subst, append_assoc, append-nil, Result, Ok, Err}
 use Rattle.std.proofs.lemmas.List.{length-append}
-use Rattle.httparse.specs.Grammar.{ChunkLine, print_chunk_line, ReadsChunkLine}
-use Rattle.http_framing.specs.Chunks.{HasLine, BadLine, AwaitsLine, closing, trailers, Chunk, Chunks, content, LastChunk, PassesLimit, WrongChunk, LongTrailers, AwaitsChunk}
+use Rattle.httparse.specs.Grammar.{print_chunk_line}
+use Rattle.http_framing.specs.Chunks.{HasLine, Chunk, Chunks, content, AwaitsChunk}
 use Rattle.http_framing.specs.ChunkReads.{LineRead, DataRead, TrailersRead, ChunkRead, SoFar}
 use Rattle.http_framing.specs.Faults.{shifted}
 use Rattle.http_framing.specs.Bodies.{IsChunked, Closes}
 use Rattle.http_framing.specs.BodyReads.{BodyRead}
 use Rattle.http_framing.specs.declared.chunk.SizeLine.{SizeLine}
-use Rattle.http_framing.specs.declared.chunks.Step.{Step}
 use Rattle.http_framing.specs.declared.chunks.Step.TheVariants.{More, Last, TooLarge}
 use Rattle.http_framing.specs.declared.body.Body.{Body}
 use Rattle.http_framing.specs.declared.body.Body.TheVariants as known

@@ -1,10 +1,10 @@
 -- What stands at the front of bytes stays there, whatever comes behind them.
-use Rattle.std.proofs.Common.{rules, arith, ◌≡◌, ℕ, zero, suc, ◌+◌, ◌-◌, ◌<◌, ◌≤◌, ◌⊎◌, inl, inr, List, [], ◌∷◌, ◌++◌, All, IsTrue, length, take, drop, take-append-drop, refl, sym, ap, ◌∙◌, subst, codes, append_assoc, append-nil}
-use Rattle.std.proofs.lemmas.List.{take-append-le, drop-append-le, length-take, length-append, take_all}
+use Rattle.std.proofs.Common.{arith, ◌≡◌, ℕ, ◌-◌, ◌≤◌, ◌⊎◌, inl, inr, List, [], ◌∷◌, ◌++◌, All, IsTrue, length, take, drop, take-append-drop, refl, sym, ap, ◌∙◌, subst, append_assoc}
+use Rattle.std.proofs.lemmas.List.{take-append-le, drop-append-le, length-take, length-append}
 use Rattle.std.proofs.lemmas.List.Elements.{All-head, All-tail, All-cons, All-nil}
 use Rattle.std.proofs.lemmas.Str.{IsUtf8-from_ascii}
 use Rattle.std.proofs.lemmas.Str.Ascii.{IsAscii-cons, IsAscii-nil}
-use Rattle.httparse.specs.Grammar.{is_uri_byte, AllPass, LineEnd, lf, print_blank, print_request, print_version, print_end, print_section, RequestHead, IsRequestHead, ReadsRequest, HasNoRequest, NeverHasRequest, EndsInTarget, IsToken, IsField}
+use Rattle.httparse.specs.Grammar.{is_uri_byte, AllPass, LineEnd, lf, print_blank, print_request, print_version, RequestHead, IsRequestHead, ReadsRequest, NeverHasRequest, EndsInTarget, IsToken, IsField}
 use Rattle.httparse.proofs.GrammarLemmas.{print_request-append}
 use Rattle.http_framing.specs.Heads.{IsBadHead, HasHead}
 use Rattle.http_framing.proofs.Fronts.{take_both}

@@ -9,3 +9,5 @@ pub mod Grows
 pub mod Steps
 pub mod Unique
 pub mod BodyUnique
+pub mod Lengths
+pub mod TrailerLines

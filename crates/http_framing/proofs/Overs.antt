@@ -1,6 +1,7 @@
 -- What is shown of what is held is shown of all that is left.
-use Rattle.std.proofs.Common.{◌≡◌, ◌≢◌, ℕ, ◌+◌, ◌<◌, ◌≤◌, List, [], ◌∷◌, ◌++◌, length, take, drop, refl, sym, ap, ◌∙◌, subst, append_assoc, append-nil, Option, Some, None, Result, Ok, Err}
+use Rattle.std.proofs.Common.{arith, ◌≡◌, ◌≤◌, ℕ, zero, suc, Bool, true, false, ◌||◌, List, [], ◌∷◌, ◌++◌, drop, refl, sym, ap, ◌∙◌, subst, append_assoc, append-nil, Option, Some, None}
 use Rattle.std.specs.Io.KnownBytes.{Consumes, Keeps, IsAtEnd}
+use Rattle.std.specs.List.{list_any}
 use Rattle.http_framing.specs.Stream.{SameBytes, Takes, Over}
 
 -- what is taken, and then more
@@ -82,3 +83,18 @@ pub over_to : {A C : Type 0} (P : List ℕ → List ℕ → List ℕ → A → T
 over_to P T old None mid y a c p h = tt
 over_to P T old (Some xs) mid None a c p h = p
 over_to P T old (Some xs) mid (Some ys) a c p h = h (old ++ xs) mid ys p
+
+-- what is among later bytes is among all
+any_all : (p : ℕ → Bool) (xs : List ℕ) (a : ℕ) → list_any p (drop a xs) ≡ true → list_any p xs ≡ true
+any_all p xs zero h = h
+any_all p [] (suc a) h = h
+any_all p (x ∷ xs) (suc a) h = (elim (p x) as (λ t. (t || list_any p xs) ≡ true) [
+  | true ↦ refl
+  | false ↦ any_all p xs a h
+])
+
+pub any_later : (p : ℕ → Bool) (xs : List ℕ) (a b : ℕ) → b ≤ a → list_any p (drop a xs) ≡ true → list_any p (drop b xs) ≡ true
+any_later p xs a zero le h = any_all p xs a h
+any_later p xs zero (suc b) le h = absurd (omega (arith, le))
+any_later p [] (suc a) (suc b) le h = h
+any_later p (x ∷ xs) (suc a) (suc b) le h = any_later p xs a b (omega (arith, le)) h

@@ -1,7 +1,7 @@
 -- The steps of reading a body, over all that is left.
-use Rattle.std.proofs.Common.{arith, ◌≡◌, ◌≢◌, ℕ, ◌<◌, ◌≤◌, List, [], ◌++◌, length, take, drop, take-append-drop, refl, sym, ap, ◌∙◌, append_assoc, append-nil, Option, Result, Ok, Err}
+use Rattle.std.proofs.Common.{arith, ◌≡◌, ◌≢◌, ℕ, ◌≤◌, List, [], ◌++◌, length, take, drop, take-append-drop, refl, sym, ap, ◌∙◌, append_assoc, append-nil, Option, Ok, Err}
 use Rattle.std.proofs.lemmas.List.{length-append, length-take}
-use Rattle.http_framing.specs.Bodies.{IsKnown, IsRest}
+use Rattle.http_framing.specs.Bodies.{IsKnown}
 use Rattle.http_framing.specs.BodyReads.{BodyRead, BytesAwaited, BytesRead, RestAwaited, RestRead}
 use Rattle.http_framing.specs.Stream.{SameBytes, Takes, Over}
 use Rattle.http_framing.specs.declared.body.Body.TheVariants.{Read}

@@ -1,11 +1,11 @@
 -- `is_in_target` computes `EndsInTarget`.
-use Rattle.std.proofs.Common.{◌≡◌, ◌≢◌, ℕ, ◌+◌, ◌<◌, ◌≤◌, ◌⊎◌, Bool, true, false, ◌&&◌, ◌==◌, List, [], ◌∷◌, ◌++◌, All, IsTrue, length, if◌then◌else◌, arith, refl, sym, ap, ◌∙◌, subst, inl, inr, true≢false, append_assoc}
+use Rattle.std.proofs.Common.{◌≡◌, ℕ, ◌<◌, ◌⊎◌, Bool, true, false, ◌&&◌, ◌==◌, List, [], ◌∷◌, ◌++◌, IsTrue, length, if◌then◌else◌, arith, refl, sym, ap, ◌∙◌, inl, inr, true≢false, append_assoc}
 use Rattle.std.proofs.lemmas.Bool.{cases_Bool}
 use Rattle.std.proofs.lemmas.Bool.Decides.{nat_tests}
 use Rattle.std.proofs.lemmas.List.Elements.{All-head, All-tail, All-cons, All-nil}
 use Rattle.std.proofs.lemmas.List.Sums.{AllPass-from_list_all, list_all-from_AllPass}
-use Rattle.std.specs.List.{list_all, flat_map}
-use Rattle.httparse.specs.Grammar.{is_token_byte, is_uri_byte, AllPass, LineEnd, crlf, lf, print_end, print_blank, IsToken, EndsInTarget}
+use Rattle.std.specs.List.{list_all}
+use Rattle.httparse.specs.Grammar.{is_token_byte, is_uri_byte, AllPass, LineEnd, crlf, lf, print_end, print_blank, EndsInTarget}
 use Rattle.http_framing.specs.Targets.{after_blank, in_method, is_in_target}
 
 -- the bytes are empty lines and then these

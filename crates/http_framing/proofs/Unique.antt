@@ -1,11 +1,11 @@
 -- A head is read in one way, and where one is read no fault stands.
-use Rattle.std.proofs.Common.{rules, arith, ◌≡◌, ◌≢◌, ℕ, ◌+◌, ◌-◌, ◌<◌, ◌≤◌, ◌⊎◌, inl, inr, List, [], ◌∷◌, ◌++◌, length, take, drop, refl, sym, ap, ◌∙◌, subst, append_assoc, append-nil, Option, Some, None}
+use Rattle.std.proofs.Common.{arith, ◌≡◌, ◌≢◌, ℕ, ◌+◌, ◌-◌, ◌<◌, ◌≤◌, inl, inr, List, [], ◌∷◌, ◌++◌, length, take, drop, refl, sym, ap, ◌∙◌, subst, append-nil, Some, None}
 use Rattle.std.proofs.lemmas.List.{take_all, length-append}
 use Rattle.httparse.specs.Grammar.{RequestHead, print_request, ReadsRequest, ResponseHead, print_response, ReadsResponse, NeverHasResponse, MayBecomeResponse}
-use Rattle.httparse.specs.Grammar.{ChunkLine, print_chunk_line, chunk_size, ReadsChunkLine, NeverHasChunkLine, MayBecomeChunkLine}
+use Rattle.httparse.specs.Grammar.{print_chunk_line, chunk_size, ReadsChunkLine, NeverHasChunkLine, MayBecomeChunkLine}
 use Rattle.httparse.proofs.GrammarLemmas.{request_unique, response_unique}
 use Rattle.httparse.proofs.ChunkLemmas.{chunk_line_unique}
-use Rattle.http_framing.specs.Chunks.{HasLine, BadLine, AwaitsLine, closing, trailers, Chunk, Chunks, content, LastChunk, PassesLimit, ChunkCloses, WrongChunk, LongTrailers, AwaitsTrailers, AwaitsChunk}
+use Rattle.http_framing.specs.Chunks.{HasLine, BadLine, AwaitsLine, closing, trailers, Chunk, Chunks, content, LastChunk, PassesLimit, ChunkCloses, WrongChunk, LongTrailers, AwaitsChunk}
 use Rattle.http_framing.specs.declared.chunk.Closing.{Closing}
 use Rattle.http_framing.specs.declared.chunk.Closing.TheVariants.{There, Awaited, Wrong}
 use Rattle.http_framing.specs.Heads.{HasHead, LacksHead}

@@ -1,5 +1,5 @@
 -- What the steps of reading a chunked body come to.
-use Rattle.std.specs.Prelude.{◌≡◌, ℕ, ◌+◌, ◌<◌, ◌≤◌, ◌⊎◌, List, [], ◌∷◌, ◌++◌, length, take, drop, ⊤, Option, Some, None, Result, Ok, Err}
+use Rattle.std.specs.Prelude.{◌≡◌, ℕ, ◌+◌, ◌<◌, ◌≤◌, List, [], ◌∷◌, ◌++◌, length, take, drop, ⊤, Option, Some, None, Result, Ok, Err}
 use Rattle.std.specs.Io.KnownBytes.{IsAtEnd}
 use Rattle.httparse.specs.Grammar.{ChunkLine}
 use Rattle.httparse.specs.Spans.{IsChunkLineAt}
@@ -9,7 +9,7 @@ use Rattle.http_framing.specs.declared.chunks.Step.TheVariants.{More, Last, TooL
 use Rattle.http_framing.specs.declared.chunk.SizeLine.{SizeLine}
 use Rattle.http_framing.specs.declared.chunk.Closing.TheVariants.{There, Awaited, Wrong}
 use Rattle.http_framing.specs.declared.fault.EdgeFault.{EdgeFault}
-use Rattle.http_framing.specs.declared.fault.EdgeFault.TheVariants.{BadHead, HeadTooLong, BadChunk, Cut, ReadFault, Memory}
+use Rattle.http_framing.specs.declared.fault.EdgeFault.TheVariants.{HeadTooLong, BadChunk, Cut, ReadFault, Memory}
 
 -- what was taken when a chunk line was awaited
 abbrev pub LineTaken : List ℕ → Option (List ℕ) → Result SizeLine EdgeFault → Type 0

@@ -1,6 +1,6 @@
 -- How a head says where its body ends (RFC 9112, sections 3.2, 6.1 to 6.3).
-use Rattle.std.specs.Prelude.{ℕ, ◌+◌, ◌^◌, Bool, not, ◌&&◌, ◌||◌, List, [], ◌∷◌, map, length, if◌then◌else◌, nat_lt, nat_le, ◌==◌, codes, bytes_eq}
-use Rattle.std.specs.List.{list_all}
+use Rattle.std.specs.Prelude.{ℕ, ◌^◌, Bool, not, ◌&&◌, ◌||◌, List, [], ◌∷◌, map, length, if◌then◌else◌, nat_lt, nat_le, ◌==◌, codes, bytes_eq}
+use Rattle.std.specs.List.{list_all, filter}
 use Rattle.std.specs.Char.{is_ascii_digit, to_ascii_lowercase}
 use Rattle.std.specs.Str.Parse.{digits_value}
 use Rattle.http_framing.specs.declared.framing.Framing.{Framing}
@@ -29,27 +29,33 @@ length_said http10 h =
     else if eq_ignore_case h.0 (codes "transfer-encoding") then (if not http10 && bytes_eq h.1 (codes "chunked") then Chunked else Wrong)
     else Absent
 
--- two fields that say something are wrong together
-abbrev pub joined : Framing → Framing → Framing
-joined Absent f = f
-joined f Absent = f
-joined f g = Wrong
+-- whether a field has this name, in any ASCII case
+abbrev pub is_named : List ℕ → Header → Bool
+is_named name h = eq_ignore_case h.0 name
 
--- what is said so far, and what all further fields say
-abbrev pub lengths_said : Bool → Framing → List Header → Framing
-lengths_said http10 so_far [] = so_far
-lengths_said http10 so_far (h ∷ hs) = lengths_said http10 (joined so_far (length_said http10 h)) hs
+-- whether a field says something of the length
+abbrev pub is_length : Header → Bool
+is_length h = is_named (codes "content-length") h || is_named (codes "transfer-encoding") h
 
--- so many fields named `host`, and those among these
-abbrev pub hosts : ℕ → List Header → ℕ
-hosts n [] = n
-hosts n (h ∷ hs) = hosts (if eq_ignore_case h.0 (codes "host") then n + 1 else n) hs
+-- what the fields that say something of the length say: there is one at most
+abbrev pub said_by : Bool → List Header → Framing
+said_by http10 [] = Absent
+said_by http10 (h ∷ []) = length_said http10 h
+said_by http10 (h ∷ i ∷ more) = Wrong
 
--- a request's whole head is tested for its number of fields, then for its host and its lengths
+-- what all fields say of the length
+abbrev pub lengths_said : Bool → List Header → Framing
+lengths_said http10 fields = said_by http10 (filter is_length fields)
+
+-- how many fields are named `host`
+abbrev pub hosts : List Header → ℕ
+hosts fields = length (filter (is_named (codes "host")) fields)
+
+-- a request's whole head is tested for its number of fields, then for its one host (of HTTP/1.1) and its lengths
 abbrev pub framing_of : Bool → List Header → Framing
 framing_of http10 fields =
     if nat_lt 100 (length fields) then TooMany
-    else if http10 || hosts 0 fields == 1 then lengths_said http10 Absent fields
+    else if http10 || hosts fields == 1 then lengths_said http10 fields
     else Wrong
 
 -- a reply's whole head is tested for its number of fields, then for its status and its lengths
@@ -57,4 +63,10 @@ abbrev pub reply_framing_of : Bool → ℕ → List Header → Framing
 reply_framing_of http10 status fields =
     if nat_lt 100 (length fields) then TooMany
     else if nat_lt status 100 then Wrong
-    else lengths_said http10 Absent fields
+    else lengths_said http10 fields
+
+-- what two fields say together: two that say something are wrong
+abbrev pub joined : Framing → Framing → Framing
+joined Absent f = f
+joined f Absent = f
+joined f g = Wrong

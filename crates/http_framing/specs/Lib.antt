@@ -20,3 +20,7 @@ pub mod BodyReads
 pub mod Chunks
 -- what the steps of reading a chunked body come to
 pub mod ChunkReads
+-- the trailers of a body in chunks, line by line
+pub mod Trailers
+-- what holds of bodies
+pub mod Laws

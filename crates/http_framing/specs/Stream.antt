@@ -1,5 +1,6 @@
 -- Bytes that are held, and bytes that a source has left.
-use Rattle.std.specs.Prelude.{◌≡◌, ℕ, ◌<◌, ◌≤◌, List, ◌++◌, length, ⊤, Option, Some, None}
+use Rattle.std.specs.Prelude.{◌≡◌, ℕ, ◌<◌, ◌≤◌, ◌⊎◌, ◌==◌, true, drop, List, ◌++◌, length, ⊤, Option, Some, None}
+use Rattle.std.specs.List.{list_any}
 use Rattle.std.specs.Io.KnownBytes.{Keeps, IsAtEnd}
 use Rattle.http_framing.specs.declared.fill.Filled.{Filled}
 use Rattle.http_framing.specs.declared.fill.Filled.TheVariants.{More, End, Fault, Memory}
@@ -40,3 +41,7 @@ FillsOn old x new y Memory = ⊤
 abbrev pub looks_left : Filled → ℕ
 looks_left More = 1
 looks_left f = 0
+
+-- a line feed is among the bytes that came, or so many bytes are held
+abbrev pub HasCome : ℕ → List ℕ → List ℕ → Type 0
+HasCome limit old new = (limit ≤ length new) ⊎ (list_any (λ b. b == 10) (drop (length old) new) ≡ true)

@@ -1,24 +1,30 @@
 // One more read.
-ghost use Rattle.std.specs.Prelude.{◌≡◌, ◌≤◌, ◌<◌, length};
+ghost use Rattle.std.specs.Prelude.{◌≡◌, ◌≤◌, ◌<◌, ◌==◌, length, drop};
+ghost use Rattle.std.specs.List.{list_any};
 ghost use Rattle.gw_base.specs.Outside.{Rose};
-ghost use Rattle.http_framing.specs.Stream.{Fills, FillsOn, Takes};
+ghost use Rattle.http_framing.specs.Stream.{Fills, FillsOn, HasCome, Takes};
 
 use crate::held::Held;
 use gw_base::Source;
 
+// The most bytes that are asked for at a time.
 const CHUNK: usize = 4096;
 
 /// What a read came to.
-#[derive(Clone, Copy, Debug, PartialEq, Eq, Drop)]
+#[derive(Clone, Copy, Debug, PartialEq, Eq)]
 pub enum Filled {
+    /// Some bytes came.
     More,
+    /// The input has ended.
     End,
+    /// The read failed.
     Fault,
+    /// Memory is wanting.
     Memory,
 }
 
-#[tactic(auto, using(crate::proofs::Overs::takes_consumed, crate::proofs::Overs::takes_kept))]
 /// Takes at least one byte more, but at the end.
+#[tactic(auto, using(crate::proofs::Overs::takes_consumed, crate::proofs::Overs::takes_kept))]
 pub fn fill<S: Source>(source: &mut S, held: &mut Held) -> Filled
     ensures bytes { Fills held.old (S.left source.old) held.new (S.left source.new) result }
     ensures taken { Takes (S.left source.old) (S.left source.new) }
@@ -39,10 +45,20 @@ pub fn fill<S: Source>(source: &mut S, held: &mut Held) -> Filled
     }
 }
 
-#[tactic(auto, using(crate::proofs::Overs::takes_both, crate::proofs::Overs::takes_none))]
+// Whether a line feed is among the bytes from this place on.
+fn has_line_feed(bytes: &[u8], from: usize) -> bool
+    requires { from ≤ length bytes.now }
+    ensures { result ≡ list_any (λ b. b == 10) (drop from bytes.now) }
+{
+    bytes[from..].contains(&b'\n')
+}
+
 /// Reads until a line feed came, or so many bytes are held.
 pub fn fill_line<S: Source>(source: &mut S, held: &mut Held, limit: usize) -> Filled
     ensures bytes { FillsOn held.old (S.left source.old) held.new (S.left source.new) result }
+
+    // More is answered only where a line ended among the bytes that came, or the limit is reached.
+    ensures seen { result ≡ Filled.More → HasCome limit held.old held.new }
     ensures taken { Takes (S.left source.old) (S.left source.new) }
     ensures fault { result ≡ Filled.Fault → Rose (S.faults source.old) (S.faults source.new) }
     ensures later { S.faults source.old ≤ S.faults source.new }
@@ -56,7 +72,7 @@ pub fn fill_line<S: Source>(source: &mut S, held: &mut Held, limit: usize) -> Fi
             Filled::Fault => return Filled::Fault,
             Filled::Memory => return Filled::Memory,
         }
-        if held.len() >= limit || held.as_slice()[at..].contains(&10) {
+        if held.len() >= limit || has_line_feed(held.as_slice(), at) {
             return Filled::More;
         }
     }

@@ -3,7 +3,6 @@ ghost use Rattle.std.specs.Prelude.{◌≡◌, ◌≤◌, ◌&&◌, not, ◌==�
 ghost use Rattle.std.specs.Str.Parse.{digits_value};
 ghost use Rattle.httparse.specs.Spans.{IsHeaderWithin, header_bytes};
 ghost use Rattle.http_framing.specs.Framings.{eq_ignore_case, is_number, known_length, length_said, joined, lengths_said, hosts, framing_of, reply_framing_of};
-ghost use Rattle.http_framing.specs.declared.framing.Framing.TheVariants.{Absent};
 
 use httparse::spans::HeaderSpan;
 
@@ -107,7 +106,7 @@ impl Framing {
 
 fn lengths_said(http10: bool, buf: &[u8], fields: &[HeaderSpan]) -> Framing
     requires { All (IsHeaderWithin (length buf.now)) fields.now }
-    ensures { result ≡ lengths_said http10 Absent (map (header_bytes buf.now) fields.now) }
+    ensures { result ≡ lengths_said http10 (map (header_bytes buf.now) fields.now) }
 {
     let mut said = Framing::Absent;
     for field in fields {
@@ -118,7 +117,7 @@ fn lengths_said(http10: bool, buf: &[u8], fields: &[HeaderSpan]) -> Framing
 
 fn hosts(buf: &[u8], fields: &[HeaderSpan]) -> usize
     requires { All (IsHeaderWithin (length buf.now)) fields.now }
-    ensures { result ≡ hosts 0 (map (header_bytes buf.now) fields.now) }
+    ensures { result ≡ hosts (map (header_bytes buf.now) fields.now) }
 {
     let mut n = 0;
     for field in fields {

@@ -6,9 +6,9 @@ ghost use Rattle.http_framing.specs.Targets.{after_blank, in_method};
 
 use httparse::{is_header_name_token, is_uri_token};
 
-// The bytes after the empty lines at the front.
+/// The bytes after the empty lines at the front.
 #[tactic(auto, unfolding(crate::specs::Targets::after_blank))]
-fn skip_blank(buf: &[u8]) -> &[u8]
+pub fn skip_blank(buf: &[u8]) -> &[u8]
     ensures { result.now ≡ after_blank buf.now }
 {
     let mut left = buf;

@@ -1,4 +1,4 @@
-use Rattle.std.proofs.Common.{◌≡◌, Ok, Err, sym, subst, Result}
+use Rattle.std.proofs.Common.{Ok, Err, sym, subst, Result}
 use Rattle.http_framing.specs.BodyReads.{BodyRead}
 use Rattle.http_framing.specs.Stream.{Over}
 use Rattle.http_framing.specs.declared.fault.EdgeFault.{EdgeFault}

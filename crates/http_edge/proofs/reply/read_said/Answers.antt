@@ -1,4 +1,4 @@
-use Rattle.std.proofs.Common.{◌≡◌, ◌∙◌, ap, false, sym, subst, Result, List, ℕ}
+use Rattle.std.proofs.Common.{false, sym, subst, Result, List, ℕ}
 use Rattle.http_framing.specs.Bodies.{IsKnown, IsChunked}
 use Rattle.http_framing.specs.BodyReads.{BodyRead}
 use Rattle.http_framing.specs.Stream.{Over}

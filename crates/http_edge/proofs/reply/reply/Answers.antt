@@ -1,4 +1,4 @@
-use Rattle.std.proofs.Common.{◌≡◌, ◌||◌, refl, sym, subst, Bool, Ok, Err, Result}
+use Rattle.std.proofs.Common.{◌||◌, refl, sym, subst, Bool, Ok, Err, Result}
 use Rattle.call_facts.specs.declared.request.WireReply.{WireReply}
 use Rattle.http_framing.specs.Faults.{shifted}
 use Rattle.http_framing.specs.Stream.{Over}

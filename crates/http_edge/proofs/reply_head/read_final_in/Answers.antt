@@ -1,4 +1,4 @@
-use Rattle.std.proofs.Common.{arith, ◌≡◌, ◌≤◌, ◌+◌, ◌-◌, ℕ, ◌∙◌, sym, subst, Ok, Err, Result}
+use Rattle.std.proofs.Common.{arith, ◌+◌, ◌-◌, ◌∙◌, sym, subst, Ok, Err, Result}
 use Rattle.http_framing.specs.Faults.{shifted}
 use Rattle.http_framing.specs.Stream.{Over}
 use Rattle.http_framing.specs.declared.fault.EdgeFault.{EdgeFault}

@@ -1,4 +1,4 @@
-use Rattle.std.proofs.Common.{arith, ◌≡◌, ◌≤◌, ◌<◌, length, take}
+use Rattle.std.proofs.Common.{arith}
 use Rattle.std.proofs.lemmas.List.{length-take}
 use Rattle.http_framing.proofs.RoomLemmas.{reply_long}
 use Rattle.http_edge.proofs.ReplySteps.{reply_stopped, reply_begun}

@@ -1,8 +1,6 @@
-use Rattle.std.proofs.Common.{◌≡◌, ℕ, List, map, ◌==◌, refl, sym, ap, ◌∙◌}
-use Rattle.httparse.specs.Spans.{header_bytes, name_and_value}
+use Rattle.std.proofs.Common.{◌≡◌, ℕ, List, map, ◌==◌, refl, ap, ◌∙◌}
 use Rattle.http_framing.specs.Framings.{Header, reply_framing_of}
-use Rattle.http_framing.specs.declared.framing.Framing.{Framing}
-use Rattle.http_edge.specs.Texts.{header_of, header_texts}
+use Rattle.http_edge.specs.Texts.{header_texts}
 use Rattle.http_edge.proofs.Made.{names_text}
 use Rattle.http_edge.proofs.reply_head.reply_at.Goals as goal
 

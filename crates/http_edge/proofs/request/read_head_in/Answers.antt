@@ -1,4 +1,4 @@
-use Rattle.std.proofs.Common.{rules, arith, ◌≡◌, ◌≤◌, length, take, ◌∙◌, ap, sym}
+use Rattle.std.proofs.Common.{arith}
 use Rattle.std.proofs.lemmas.List.{length-take}
 use Rattle.http_edge.proofs.Steps.{head_stopped, head_begun}
 use Rattle.http_edge.proofs.request.read_head_in.Goals as goal

@@ -1,9 +1,7 @@
-use Rattle.std.proofs.Common.{rules, arith, ◌≡◌, ℕ, List, [], length, map, take, ◌==◌, refl, sym, ap, ◌∙◌}
+use Rattle.std.proofs.Common.{rules, ◌≡◌, ℕ, List, map, ◌==◌, refl, ap, ◌∙◌}
 use Rattle.std.specs.Str.Lossy.{utf8_lossy}
 use Rattle.std.proofs.lemmas.Str.{utf8_lossy-IsUtf8}
-use Rattle.httparse.specs.Spans.{header_bytes, name_and_value}
-use Rattle.http_edge.specs.Messages.{request_of}
-use Rattle.http_edge.specs.Texts.{header_of, header_texts}
+use Rattle.http_edge.specs.Texts.{header_texts}
 use Rattle.call_facts.specs.declared.request.Request.{Request}
 use Rattle.http_edge.proofs.Made.{token_text, names_text}
 use Rattle.http_edge.proofs.request.request_at.Goals as goal

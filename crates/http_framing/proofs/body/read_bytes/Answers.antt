@@ -1,6 +1,6 @@
 use Rattle.std.proofs.Common.{arith, ◌≡◌, take}
 use Rattle.std.proofs.lemmas.Grind.{common_steps}
-use Rattle.http_framing.proofs.Steps.{bytes_done, bytes_stopped}
+use Rattle.http_framing.proofs.Steps.{bytes_done}
 use Rattle.http_framing.proofs.body.read_bytes.Goals as goal
 
 pub returns-clause-bytes : goal.returns-clause-bytes

@@ -1,7 +1,6 @@
-use Rattle.std.proofs.Common.{rules, arith, ◌≡◌, ◌≤◌, ◌<◌, List, ℕ, length, take, ap, subst, ◌∙◌, Ok, inr}
+use Rattle.std.proofs.Common.{rules, arith, ◌≡◌, List, ℕ, take, ap, subst, ◌∙◌, Ok, inr}
 use Rattle.httparse.specs.Grammar.{HasNoChunkLine, MayBecomeChunkLine}
 use Rattle.httparse.specs.Outcome.{OnPartial}
-use Rattle.http_framing.specs.Chunks.{AwaitsLine}
 use Rattle.http_framing.proofs.Overs.{takes_both}
 use Rattle.http_framing.proofs.chunk.await_line.Goals as goal
 

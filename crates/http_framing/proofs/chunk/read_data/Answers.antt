@@ -1,4 +1,4 @@
-use Rattle.std.proofs.Common.{rules, arith, ◌≡◌, ◌≤◌, ◌++◌, List, ℕ, length, take}
+use Rattle.std.proofs.Common.{arith, ◌≡◌, ◌++◌, take}
 use Rattle.std.proofs.lemmas.Grind.{common_steps}
 use Rattle.http_framing.proofs.ChunkGrows.{data_done, data_room}
 use Rattle.http_framing.proofs.chunk.read_data.Goals as goal

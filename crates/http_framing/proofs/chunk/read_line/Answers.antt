@@ -1,4 +1,3 @@
-use Rattle.std.proofs.Common.{◌≡◌, ◌≤◌, length}
 use Rattle.http_framing.proofs.ChunkGrows.{line_done, line_short, line_stopped}
 use Rattle.http_framing.proofs.chunk.read_line.Goals as goal
 

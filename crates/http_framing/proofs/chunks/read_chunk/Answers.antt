@@ -1,10 +1,10 @@
-use Rattle.std.proofs.Common.{rules, arith, ◌≡◌, ◌≤◌, ◌<◌, ◌+◌, ◌-◌, List, ℕ, length, ap, sym, subst, ◌∙◌, Ok, Err, Result}
+use Rattle.std.proofs.Common.{arith, ◌≤◌, ◌<◌, ◌+◌, length, sym, subst, Ok, Err, Result}
 use Rattle.std.proofs.lemmas.Grind.{common_steps}
 use Rattle.http_framing.specs.Stream.{Over}
 use Rattle.http_framing.specs.ChunkReads.{LineRead, TrailersRead, DataRead, ChunkRead}
 use Rattle.http_framing.specs.Faults.{shifted}
 use Rattle.http_framing.specs.declared.chunks.Step.{Step}
-use Rattle.http_framing.specs.declared.chunks.Step.TheVariants.{More, Last, TooLarge}
+use Rattle.http_framing.specs.declared.chunks.Step.TheVariants.{Last}
 use Rattle.http_framing.specs.declared.fault.EdgeFault.{EdgeFault}
 use Rattle.http_framing.proofs.ChunkJoins.{line_fault, last_done, last_fault, data_fault}
 use Rattle.http_framing.proofs.Overs.{over_both, over_to, takes_both}

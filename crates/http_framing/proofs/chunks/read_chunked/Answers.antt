@@ -1,15 +1,15 @@
-use Rattle.std.proofs.Common.{arith, ◌≡◌, ◌≤◌, ◌<◌, ◌+◌, ◌-◌, ◌*◌, List, ℕ, length, ap, sym, subst, ◌∙◌, Ok, Err, IfOk, Result}
+use Rattle.std.proofs.Common.{arith, ◌≡◌, ◌+◌, length, ap, sym, subst, ◌∙◌, Ok, Err, IfOk, Result}
 use Rattle.http_framing.specs.Stream.{Over}
 use Rattle.http_framing.specs.Bodies.{IsChunked}
 use Rattle.http_framing.specs.BodyReads.{BodyRead}
 use Rattle.http_framing.specs.ChunkReads.{ChunkRead, SoFar, Adds}
 use Rattle.http_framing.specs.Faults.{shifted}
 use Rattle.http_framing.specs.declared.chunks.Step.{Step}
-use Rattle.http_framing.specs.declared.chunks.Step.TheVariants.{More, Last, TooLarge}
+use Rattle.http_framing.specs.declared.chunks.Step.TheVariants.{More, Last}
 use Rattle.http_framing.specs.declared.body.Body.{Body}
 use Rattle.http_framing.specs.declared.body.Body.TheVariants as known
 use Rattle.http_framing.specs.declared.fault.EdgeFault.{EdgeFault}
-use Rattle.http_framing.proofs.ChunkJoins.{far_more, body_last, body_large, body_fault}
+use Rattle.http_framing.proofs.ChunkJoins.{far_more, body_last, body_fault}
 use Rattle.http_framing.proofs.Overs.{over_both, takes_both}
 use Rattle.http_framing.proofs.chunks.read_chunked.Goals as goal
 

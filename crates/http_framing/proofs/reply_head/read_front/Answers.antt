@@ -1,4 +1,4 @@
-use Rattle.std.proofs.Common.{arith, rules, ap, ◌∙◌, Err, length}
+use Rattle.std.proofs.Common.{arith, ap, ◌∙◌, Err, length}
 use Rattle.http_framing.proofs.RoomLemmas.{none_exceeds_reply}
 use Rattle.http_framing.proofs.reply_head.read_front.Goals as goal
 

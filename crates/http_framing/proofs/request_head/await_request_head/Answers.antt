@@ -1,4 +1,4 @@
-use Rattle.std.proofs.Common.{rules, arith, refl, sym, subst, ◌∙◌, ◌≡◌, ◌≤◌, ◌<◌, ℕ, List, length, take}
+use Rattle.std.proofs.Common.{rules, arith, refl, subst, ◌≡◌, ℕ, List, take}
 use Rattle.std.proofs.lemmas.List.{length-take}
 use Rattle.http_framing.specs.Heads.{IsUnfinished}
 use Rattle.http_framing.proofs.Overs.{takes_both}

@@ -1,5 +1,5 @@
-use Rattle.std.proofs.Common.{arith, rules, ap, ◌∙◌, Err, length}
-use Rattle.http_framing.proofs.RoomLemmas.{none_exceeds, unfinished_is}
+use Rattle.std.proofs.Common.{arith, ap, ◌∙◌, Err, length}
+use Rattle.http_framing.proofs.RoomLemmas.{none_exceeds}
 use Rattle.http_framing.proofs.request_head.read_front.Goals as goal
 
 pub unreachable-requires : goal.unreachable-requires

@@ -1,4 +1,4 @@
-use Rattle.std.proofs.Common.{rules, ◌∙◌, ap, sym, false}
+use Rattle.std.proofs.Common.{◌∙◌, ap, sym, false}
 use Rattle.http_framing.specs.Targets.{in_method}
 use Rattle.http_framing.proofs.TargetLemmas.{ends_from_test, test_from_ends}
 use Rattle.http_framing.proofs.target.ends_in_target.Goals as goal

@@ -1,4 +1,3 @@
-use Rattle.std.proofs.Common.{◌≡◌, ◌≤◌, length}
 use Rattle.http_framing.proofs.ChunkGrows.{trailers_done, trailers_room, trailers_stopped}
 use Rattle.http_framing.proofs.trailers.read_trailers.Goals as goal
 

@@ -9,6 +9,8 @@
 //! | `specs/Tree.antt` | the tree of a template: items, expressions, references with their steps |
 //! | `specs/Grammar.antt` | which text is a template of which tree: a relation by cases on what stands at the front |
 //! | `specs/Templates.antt` | what reading a text from the left gives: its tree, or the first fault and its place |
+//! | `specs/Calls.antt` | the macros of a tree, and its first call that has no macro or another number of arguments |
+//! | `specs/Expanded.antt` | the tree without macros: bodies in place of calls, arguments in place of parameters |
 //!
 //! The functions of [`laws`] prove that the grammar and reading agree both ways, and that a text is a template of one
 //! tree at most.

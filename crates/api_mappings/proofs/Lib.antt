@@ -1,0 +1,4 @@
+-- what stands at the front of a text
+pub mod Cuts
+-- the pieces of a text
+pub mod Braces

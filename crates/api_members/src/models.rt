@@ -1,0 +1,103 @@
+// Models.
+ghost use Rattle.std.specs.Prelude.{◌≡◌, ◌⊎◌, map, MatchResult, Ok, Err};
+ghost use Rattle.json_subset.specs.Documents.{IsPart, part};
+ghost use Rattle.api_parts.specs.Reading.{ReadsAs};
+ghost use Rattle.schema_draft4.specs.Faults.{FaultNamesPart};
+ghost use Rattle.api_members.specs.Models as says;
+ghost use Rattle.api_members.specs.Causes.{IsCauseOf};
+
+use crate::values::{bad, copied, here_is, member_at, object, unknown};
+use api_mappings::is_name;
+use api_parts::{ApiCause, ApiFault, ModelFault, below, no_memory};
+use gw_base::{Seq, Text};
+use json_subset::{Doc, NodeId};
+use schema_draft4::{Schema, SchemaFault};
+use std::alloc::Global;
+
+/// The most models of an API.
+const MODELS: u32 = 300;
+
+// The cause of a fault of a schema.
+fn cause(alloc: Global, doc: &Doc, fault: &SchemaFault) -> Result<ApiCause, ApiFault>
+    requires { FaultNamesPart doc.now fault.now }
+    ensures { MatchResult result (λ c. IsCauseOf doc.now fault.now c) (λ e. e.cause ≡ ApiCause.Memory) }
+{
+    match fault {
+        SchemaFault::BadKeyword(at) => Ok(ApiCause::Model(ModelFault::BadKeyword(doc.place(*at)))),
+        SchemaFault::BadPattern(at) => Ok(ApiCause::Model(ModelFault::BadPattern(doc.place(*at)))),
+        SchemaFault::Unsupported(name) => Ok(ApiCause::Model(ModelFault::Unsupported(copied(
+            alloc,
+            name.as_str(),
+        )?))),
+        SchemaFault::RefMissing(name) => Ok(ApiCause::Model(ModelFault::RefMissing(copied(
+            alloc,
+            name.as_str(),
+        )?))),
+        SchemaFault::RefCycle(name) => Ok(ApiCause::Model(ModelFault::RefCycle(copied(
+            alloc,
+            name.as_str(),
+        )?))),
+        SchemaFault::Memory => Err(no_memory(alloc)),
+    }
+}
+
+#[tactic(auto, unfolding(crate::specs::Models::model_in), using(crate::proofs::Led::none_back, crate::proofs::Causes::refused))]
+fn model(alloc: Global, doc: &Doc, id: NodeId) -> Result<Schema, ApiFault>
+    requires { IsPart doc.now id }
+    ensures { ReadsAs says.schemas_in (says.model_in (part doc.now id)) result }
+{
+    match Schema::read(alloc, doc, id) {
+        Ok(schema) => Ok(schema),
+        Err(fault) => match cause(alloc, doc, &fault) {
+            Ok(cause) => Err(here_is(alloc, cause)),
+            Err(fault) => Err(fault),
+        },
+    }
+}
+
+fn add_model(
+    alloc: Global,
+    doc: &Doc,
+    read: Seq<(Text, Schema)>,
+    name: &str,
+    id: NodeId,
+) -> Result<Seq<(Text, Schema)>, ApiFault>
+    requires { IsPart doc.now id }
+    ensures { ReadsAs (map says.model_seen) (says.models_member (map says.model_seen read) name.now (part doc.now id)) result }
+{
+    if !is_name(name) {
+        return Err(unknown(alloc, name));
+    }
+    let schema = model(alloc, doc, id)?;
+    let name = copied(alloc, name)?;
+    let mut read = read;
+    match read.push((name, schema)) {
+        Ok(()) => Ok(read),
+        Err(_) => Err(no_memory(alloc)),
+    }
+}
+
+/// The models, by their names.
+pub fn read_models(
+    alloc: Global,
+    doc: &Doc,
+    name: &str,
+    id: NodeId,
+) -> Result<Seq<(Text, Schema)>, ApiFault>
+    requires { IsPart doc.now id }
+    ensures { ReadsAs (map says.model_seen) (says.models_in name.now (part doc.now id)) result }
+{
+    let mut read = Seq::new(alloc);
+    let count = object(alloc, doc, name, id)?;
+    if count > MODELS {
+        return Err(bad(alloc, name));
+    }
+    for i in 0..count {
+        let (member, value) = member_at(doc, id, i);
+        read = match add_model(alloc, doc, read, member, value) {
+            Ok(read) => read,
+            Err(fault) => return Err(below(alloc, member, fault)),
+        };
+    }
+    Ok(read)
+}

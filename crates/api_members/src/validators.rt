@@ -1,0 +1,96 @@
+// Validators.
+ghost use Rattle.std.specs.Prelude.{◌≡◌};
+ghost use Rattle.json_subset.specs.Documents.{IsPart, part};
+ghost use Rattle.api_parts.specs.Reading.{Reads};
+ghost use Rattle.api_members.specs.Validators.{validator_in, validator_member, validators_in, validators_member};
+
+use crate::values::{copied, flag, member_at, object, unknown};
+use api_mappings::is_name;
+use api_parts::{ApiFault, Validator, below, no_memory};
+use gw_base::{Seq, Text};
+use json_subset::{Doc, NodeId};
+use std::alloc::Global;
+
+fn add_check(
+    alloc: Global,
+    doc: &Doc,
+    read: Validator,
+    name: &str,
+    id: NodeId,
+) -> Result<Validator, ApiFault>
+    requires { IsPart doc.now id }
+    ensures { Reads (validator_member read name.now (part doc.now id)) result }
+{
+    if name == "body" {
+        let body = flag(alloc, doc, name, id)?;
+        return Ok(Validator { body, ..read });
+    }
+    if name == "parameters" {
+        let parameters = flag(alloc, doc, name, id)?;
+        return Ok(Validator { parameters, ..read });
+    }
+    Err(unknown(alloc, name))
+}
+
+fn read_validator(alloc: Global, doc: &Doc, name: &str, id: NodeId) -> Result<Validator, ApiFault>
+    requires { IsPart doc.now id }
+    ensures { Reads (validator_in name.now (part doc.now id)) result }
+{
+    let mut read = Validator {
+        body: false,
+        parameters: false,
+    };
+    let count = object(alloc, doc, name, id)?;
+    for i in 0..count {
+        let (member, value) = member_at(doc, id, i);
+        read = match add_check(alloc, doc, read, member, value) {
+            Ok(read) => read,
+            Err(fault) => return Err(below(alloc, member, fault)),
+        };
+    }
+    Ok(read)
+}
+
+fn add_validator(
+    alloc: Global,
+    doc: &Doc,
+    read: Seq<(Text, Validator)>,
+    name: &str,
+    id: NodeId,
+) -> Result<Seq<(Text, Validator)>, ApiFault>
+    requires { IsPart doc.now id }
+    ensures { Reads (validators_member read name.now (part doc.now id)) result }
+{
+    if !is_name(name) {
+        return Err(unknown(alloc, name));
+    }
+    let validator = read_validator(alloc, doc, name, id)?;
+    let name = copied(alloc, name)?;
+    let mut read = read;
+    match read.push((name, validator)) {
+        Ok(()) => Ok(read),
+        Err(_) => Err(no_memory(alloc)),
+    }
+}
+
+/// The validators, by their names.
+pub fn read_validators(
+    alloc: Global,
+    doc: &Doc,
+    name: &str,
+    id: NodeId,
+) -> Result<Seq<(Text, Validator)>, ApiFault>
+    requires { IsPart doc.now id }
+    ensures { Reads (validators_in name.now (part doc.now id)) result }
+{
+    let mut read = Seq::new(alloc);
+    let count = object(alloc, doc, name, id)?;
+    for i in 0..count {
+        let (member, value) = member_at(doc, id, i);
+        read = match add_validator(alloc, doc, read, member, value) {
+            Ok(read) => read,
+            Err(fault) => return Err(below(alloc, member, fault)),
+        };
+    }
+    Ok(read)
+}

@@ -1,0 +1,4 @@
+-- trees that stand while members are read
+pub mod Planted
+-- what a definition keeps
+pub mod Kept

@@ -1,0 +1,10 @@
+-- the members of a document
+pub mod Document
+-- what a definition states
+pub mod Definition
+-- the parts that getters give
+pub mod Getters
+-- what the program's values stand for
+pub mod Views
+-- what a definition keeps
+pub mod Kept

@@ -1,0 +1,2 @@
+-- the first fault of the resources' paths
+pub mod Pathed

@@ -1,0 +1,12 @@
+-- mappings
+pub mod Mapped
+-- response rules
+pub mod Rules
+-- integrations
+pub mod Integrations
+-- methods
+pub mod Methods
+-- resources
+pub mod Resources
+-- the tree of the resources' paths
+pub mod Paths

@@ -1,0 +1,392 @@
+// Methods.
+ghost use Rattle.std.specs.Prelude.{◌≡◌, [], codes, MatchResult, Some};
+ghost use Rattle.json_subset.specs.Documents.{IsPart, form, part, root_tree};
+ghost use Rattle.json_values.specs.Parts.{entries_of};
+ghost use Rattle.api_parts.specs.Reading.{Reads};
+ghost use Rattle.api_resources.specs.Methods as says;
+
+use crate::integrations::read_integration;
+use api_mappings::parameter;
+use api_members::values::{
+    copied, entry_count, flag, here_is, member_at, missing, object, text, unknown,
+};
+use api_members::{bad_mapping, waits};
+use api_parts::{
+    ApiCause, ApiFault, Integration, Method, Parameter, ParameterPlace, below, no_memory,
+};
+use gw_base::{Seq, Text};
+use json_subset::{Doc, NodeId};
+use std::alloc::Global;
+
+/// What is read of a method so far.
+#[derive(Drop)]
+pub struct MethodRead {
+    pub api_key_required: bool,
+    pub authorizer: Option<u32>,
+    pub validator: Option<u32>,
+    pub parameters: Seq<Parameter>,
+    pub models: Seq<(Text, u32)>,
+    pub integration: Option<Integration>,
+    pub waiting: Option<ApiFault>,
+}
+
+/// The parameters that are read, and the first fault of theirs that waits.
+#[derive(Drop)]
+pub struct ParametersRead {
+    pub list: Seq<Parameter>,
+    pub waiting: Option<ApiFault>,
+}
+
+/// The media types that are read, each with the number of its model, and the first fault of theirs that waits.
+#[derive(Drop)]
+pub struct NamedRead {
+    pub list: Seq<(Text, u32)>,
+    pub waiting: Option<ApiFault>,
+}
+
+// The number of the first member of this name.
+fn number_in(doc: &Doc, id: NodeId, name: &str) -> Option<u32>
+    requires { IsPart doc.now id }
+    ensures { result ≡ says.number_from 0 (entries_of (form (part doc.now id))) name.now }
+{
+    let count = entry_count(doc, id);
+    for i in 0..count {
+        let (member, _) = member_at(doc, id, i);
+        if member == name {
+            return Some(i);
+        }
+    }
+    None
+}
+
+// The number by which something is defined under this name, in this member of the document.
+#[tactic(auto, unfolding(crate::specs::Methods::number_among))]
+fn number_among(doc: &Doc, member: &str, name: &str) -> Option<u32>
+    ensures { result ≡ says.number_among (root_tree doc.now) member.now name.now }
+{
+    match doc.member(doc.root(), member) {
+        Some(id) => number_in(doc, id, name),
+        None => None,
+    }
+}
+
+fn no_such(
+    alloc: Global,
+    before: Option<ApiFault>,
+    name: &str,
+    other: Text,
+) -> Result<Option<ApiFault>, ApiFault>
+    ensures { MatchResult result (λ w. w ≡ says.no_such before name.now other) (λ e. e.cause ≡ ApiCause.Memory) }
+{
+    waits(
+        alloc,
+        before,
+        name,
+        Some(here_is(alloc, ApiCause::NoSuch(other))),
+    )
+}
+
+fn add_parameter(
+    alloc: Global,
+    doc: &Doc,
+    path: &str,
+    read: ParametersRead,
+    name: &str,
+    id: NodeId,
+) -> Result<ParametersRead, ApiFault>
+    requires { IsPart doc.now id }
+    ensures { Reads (says.parameters_member path.now read name.now (part doc.now id)) result }
+{
+    let required = flag(alloc, doc, name, id)?;
+    let found = match parameter(alloc, path, name) {
+        Ok(found) => found,
+        Err(_) => return Err(no_memory(alloc)),
+    };
+    match found {
+        Some((place, spot)) => with_parameter(alloc, read, place, spot, required),
+        None => {
+            let waiting = bad_mapping(alloc, read.waiting, name)?;
+            Ok(ParametersRead {
+                list: read.list,
+                waiting,
+            })
+        }
+    }
+}
+
+fn with_parameter(
+    alloc: Global,
+    read: ParametersRead,
+    place: ParameterPlace,
+    name: &str,
+    required: bool,
+) -> Result<ParametersRead, ApiFault>
+    ensures { MatchResult result (λ r. r ≡ says.with_parameter read [] required (Some (place, name.now))) (λ e. e.cause ≡ ApiCause.Memory) }
+{
+    let name = copied(alloc, name)?;
+    let mut list = read.list;
+    match list.push(Parameter {
+        place,
+        name,
+        required,
+    }) {
+        Ok(()) => Ok(ParametersRead {
+            list,
+            waiting: read.waiting,
+        }),
+        Err(_) => Err(no_memory(alloc)),
+    }
+}
+
+fn read_parameters(
+    alloc: Global,
+    doc: &Doc,
+    path: &str,
+    name: &str,
+    id: NodeId,
+) -> Result<ParametersRead, ApiFault>
+    requires { IsPart doc.now id }
+    ensures { Reads (says.parameters_in path.now name.now (part doc.now id)) result }
+{
+    let mut read = ParametersRead {
+        list: Seq::new(alloc),
+        waiting: None,
+    };
+    let count = object(alloc, doc, name, id)?;
+    for i in 0..count {
+        let (member, value) = member_at(doc, id, i);
+        read = match add_parameter(alloc, doc, path, read, member, value) {
+            Ok(read) => read,
+            Err(fault) => return Err(below(alloc, member, fault)),
+        };
+    }
+    Ok(read)
+}
+
+fn add_model(
+    alloc: Global,
+    doc: &Doc,
+    read: NamedRead,
+    name: &str,
+    id: NodeId,
+) -> Result<NamedRead, ApiFault>
+    requires { IsPart doc.now id }
+    ensures { Reads (says.named_models_member (root_tree doc.now) read name.now (part doc.now id)) result }
+{
+    let other = text(alloc, doc, name, id)?;
+    match number_among(doc, "models", other.as_str()) {
+        Some(number) => {
+            let name = copied(alloc, name)?;
+            let mut list = read.list;
+            match list.push((name, number)) {
+                Ok(()) => Ok(NamedRead {
+                    list,
+                    waiting: read.waiting,
+                }),
+                Err(_) => Err(no_memory(alloc)),
+            }
+        }
+        None => {
+            let waiting = no_such(alloc, read.waiting, name, other)?;
+            Ok(NamedRead {
+                list: read.list,
+                waiting,
+            })
+        }
+    }
+}
+
+fn read_models(alloc: Global, doc: &Doc, name: &str, id: NodeId) -> Result<NamedRead, ApiFault>
+    requires { IsPart doc.now id }
+    ensures { Reads (says.named_models_in (root_tree doc.now) name.now (part doc.now id)) result }
+{
+    let mut read = NamedRead {
+        list: Seq::new(alloc),
+        waiting: None,
+    };
+    let count = object(alloc, doc, name, id)?;
+    for i in 0..count {
+        let (member, value) = member_at(doc, id, i);
+        read = match add_model(alloc, doc, read, member, value) {
+            Ok(read) => read,
+            Err(fault) => return Err(below(alloc, member, fault)),
+        };
+    }
+    Ok(read)
+}
+
+fn add_authorizer(
+    alloc: Global,
+    doc: &Doc,
+    read: MethodRead,
+    name: &str,
+    other: Text,
+) -> Result<MethodRead, ApiFault>
+    ensures { MatchResult result (λ r. r ≡ says.with_authorizer read name.now other (says.number_among (root_tree doc.now) (codes "authorizers") other)) (λ e. e.cause ≡ ApiCause.Memory) }
+{
+    match number_among(doc, "authorizers", other.as_str()) {
+        Some(number) => Ok(MethodRead {
+            authorizer: Some(number),
+            ..read
+        }),
+        None => {
+            let waiting = no_such(alloc, read.waiting, name, other)?;
+            Ok(MethodRead { waiting, ..read })
+        }
+    }
+}
+
+fn add_validator(
+    alloc: Global,
+    doc: &Doc,
+    read: MethodRead,
+    name: &str,
+    other: Text,
+) -> Result<MethodRead, ApiFault>
+    ensures { MatchResult result (λ r. r ≡ says.with_validator read name.now other (says.number_among (root_tree doc.now) (codes "validators") other)) (λ e. e.cause ≡ ApiCause.Memory) }
+{
+    match number_among(doc, "validators", other.as_str()) {
+        Some(number) => Ok(MethodRead {
+            validator: Some(number),
+            ..read
+        }),
+        None => {
+            let waiting = no_such(alloc, read.waiting, name, other)?;
+            Ok(MethodRead { waiting, ..read })
+        }
+    }
+}
+
+fn add_member(
+    alloc: Global,
+    doc: &Doc,
+    path: &str,
+    read: MethodRead,
+    name: &str,
+    id: NodeId,
+) -> Result<MethodRead, ApiFault>
+    requires { IsPart doc.now id }
+    ensures { Reads (says.method_member (root_tree doc.now) path.now read name.now (part doc.now id)) result }
+{
+    if name == "apiKeyRequired" {
+        let api_key_required = flag(alloc, doc, name, id)?;
+        return Ok(MethodRead {
+            api_key_required,
+            ..read
+        });
+    }
+    if name == "authorizer" {
+        let other = text(alloc, doc, name, id)?;
+        return add_authorizer(alloc, doc, read, name, other);
+    }
+    if name == "validator" {
+        let other = text(alloc, doc, name, id)?;
+        return add_validator(alloc, doc, read, name, other);
+    }
+    add_inner(alloc, doc, path, read, name, id)
+}
+
+// Parameters, models and the integration.
+fn add_inner(
+    alloc: Global,
+    doc: &Doc,
+    path: &str,
+    read: MethodRead,
+    name: &str,
+    id: NodeId,
+) -> Result<MethodRead, ApiFault>
+    requires { IsPart doc.now id }
+    ensures { Reads (says.inner_member (root_tree doc.now) path.now read name.now (part doc.now id)) result }
+{
+    if name == "parameters" {
+        let parameters = read_parameters(alloc, doc, path, name, id)?;
+        let waiting = waits(alloc, read.waiting, name, parameters.waiting)?;
+        return Ok(MethodRead {
+            parameters: parameters.list,
+            waiting,
+            ..read
+        });
+    }
+    if name == "models" {
+        let models = read_models(alloc, doc, name, id)?;
+        let waiting = waits(alloc, read.waiting, name, models.waiting)?;
+        return Ok(MethodRead {
+            models: models.list,
+            waiting,
+            ..read
+        });
+    }
+    if name == "integration" {
+        let (integration, fault) = read_integration(alloc, doc, path, name, id)?;
+        let waiting = waits(alloc, read.waiting, name, fault)?;
+        return Ok(MethodRead {
+            integration: Some(integration),
+            waiting,
+            ..read
+        });
+    }
+    Err(unknown(alloc, name))
+}
+
+fn method_of(
+    alloc: Global,
+    verb: &str,
+    read: MethodRead,
+) -> Result<(Method, Option<ApiFault>), ApiFault>
+    ensures { Reads (says.method_of verb.now read) result }
+{
+    let MethodRead {
+        api_key_required,
+        authorizer,
+        validator,
+        parameters,
+        models,
+        integration,
+        waiting,
+    } = read;
+    let Some(integration) = integration else {
+        return Err(missing(alloc, "integration"));
+    };
+    let verb = copied(alloc, verb)?;
+    let method = Method {
+        verb,
+        api_key_required,
+        authorizer,
+        validator,
+        parameters,
+        models,
+        integration,
+    };
+    Ok((method, waiting))
+}
+
+/// The method of this verb, of the resource of this path.
+pub fn read_method(
+    alloc: Global,
+    doc: &Doc,
+    path: &str,
+    verb: &str,
+    id: NodeId,
+) -> Result<(Method, Option<ApiFault>), ApiFault>
+    requires { IsPart doc.now id }
+    ensures { Reads (says.method_in (root_tree doc.now) path.now verb.now (part doc.now id)) result }
+{
+    let mut read = MethodRead {
+        api_key_required: false,
+        authorizer: None,
+        validator: None,
+        parameters: Seq::new(alloc),
+        models: Seq::new(alloc),
+        integration: None,
+        waiting: None,
+    };
+    let count = object(alloc, doc, verb, id)?;
+    for i in 0..count {
+        let (member, value) = member_at(doc, id, i);
+        read = match add_member(alloc, doc, path, read, member, value) {
+            Ok(read) => read,
+            Err(fault) => return Err(below(alloc, member, fault)),
+        };
+    }
+    method_of(alloc, verb, read)
+}

@@ -1,0 +1,331 @@
+// Resources.
+ghost use Rattle.std.specs.Prelude.{◌≡◌, ◌<◌, ◌+◌, ◌++◌, ◌∷◌, [], length, map, IfOk, MatchResult};
+ghost use Rattle.json_subset.specs.Documents.{IsPart, form, part, root_tree};
+ghost use Rattle.json_values.specs.Parts.{entries_of};
+ghost use Rattle.api_parts.specs.Reading.{Reads, ReadsAs, each, first_of};
+ghost use Rattle.api_resources.specs.Resources as says;
+ghost use Rattle.api_resources.specs.Paths.{HasTree, IsTold, IsTreeFor, own_fault as own_fault_of};
+
+use crate::integrations::is_verb;
+use crate::methods::read_method;
+use api_members::values::{bad, copied, here_is, member_at, object, unknown};
+use api_members::waits;
+use api_parts::{ApiCause, ApiFault, Method, Resource, below, no_memory};
+use gw_base::{Seq, Text};
+use json_subset::{Doc, NodeId};
+use resource_tree::{Tree, TreeFault};
+use std::alloc::Global;
+
+/// The most resources of an API.
+const RESOURCES: u32 = 300;
+
+/// The verbs of a resource that are read, all methods so far, and the first fault of the resource that waits.
+#[derive(Drop)]
+pub struct VerbsRead {
+    pub verbs: Seq<(Text, u32)>,
+    pub methods: Seq<Method>,
+    pub waiting: Option<ApiFault>,
+}
+
+/// The resources that are read, their methods, and the first fault of theirs that waits.
+#[derive(Drop)]
+pub struct ResourcesRead {
+    pub list: Seq<Resource>,
+    pub methods: Seq<Method>,
+    pub waiting: Option<ApiFault>,
+}
+
+fn is_entry(name: &str) -> bool
+    ensures { result ≡ says.is_entry name.now }
+{
+    is_verb(name) || name == "ANY"
+}
+
+fn with_method(
+    alloc: Global,
+    read: VerbsRead,
+    name: &str,
+    method: Method,
+    fault: Option<ApiFault>,
+) -> Result<VerbsRead, ApiFault>
+    ensures { MatchResult result (λ r. r ≡ says.with_method read name.now (method, fault)) (λ e. e.cause ≡ ApiCause.Memory) }
+{
+    let waiting = waits(alloc, read.waiting, name, fault)?;
+    let name = copied(alloc, name)?;
+    let Ok(number) = u32::try_from(read.methods.as_slice().len()) else {
+        return Err(no_memory(alloc));
+    };
+    let mut verbs = read.verbs;
+    let mut methods = read.methods;
+    let Ok(()) = verbs.push((name, number)) else {
+        return Err(no_memory(alloc));
+    };
+    match methods.push(method) {
+        Ok(()) => Ok(VerbsRead {
+            verbs,
+            methods,
+            waiting,
+        }),
+        Err(_) => Err(no_memory(alloc)),
+    }
+}
+
+fn add_method(
+    alloc: Global,
+    doc: &Doc,
+    path: &str,
+    read: VerbsRead,
+    name: &str,
+    id: NodeId,
+) -> Result<VerbsRead, ApiFault>
+    requires { IsPart doc.now id }
+    ensures { Reads (says.verbs_member (root_tree doc.now) path.now read name.now (part doc.now id)) result }
+{
+    if !is_entry(name) {
+        return Err(unknown(alloc, name));
+    }
+    let (method, fault) = read_method(alloc, doc, path, name, id)?;
+    with_method(alloc, read, name, method, fault)
+}
+
+fn read_verbs(
+    alloc: Global,
+    doc: &Doc,
+    methods: Seq<Method>,
+    path: &str,
+    id: NodeId,
+) -> Result<VerbsRead, ApiFault>
+    requires { IsPart doc.now id }
+    ensures { Reads (says.verbs_in (root_tree doc.now) methods path.now (part doc.now id)) result }
+{
+    let mut read = VerbsRead {
+        verbs: Seq::new(alloc),
+        methods,
+        waiting: None,
+    };
+    let count = object(alloc, doc, path, id)?;
+    for i in 0..count {
+        let (member, value) = member_at(doc, id, i);
+        read = match add_method(alloc, doc, path, read, member, value) {
+            Ok(read) => read,
+            Err(fault) => return Err(below(alloc, member, fault)),
+        };
+    }
+    Ok(read)
+}
+
+// What waits for the path of a resource.
+fn path_waiting(alloc: Global, fault: Option<TreeFault>) -> Option<ApiFault>
+    ensures { result ≡ says.path_waiting fault }
+{
+    match fault {
+        Some(fault) => Some(here_is(alloc, ApiCause::Tree(fault))),
+        None => None,
+    }
+}
+
+// The first of two faults that wait.
+fn or_later(first: Option<ApiFault>, later: Option<ApiFault>) -> Option<ApiFault>
+    ensures { result ≡ first_of first later }
+{
+    match first {
+        Some(fault) => Some(fault),
+        None => later,
+    }
+}
+
+fn with_resource(
+    alloc: Global,
+    all: ResourcesRead,
+    path: &str,
+    fault: Option<TreeFault>,
+    verbs: VerbsRead,
+) -> Result<ResourcesRead, ApiFault>
+    ensures { MatchResult result (λ r. r ≡ says.with_resource all path.now fault verbs) (λ e. e.cause ≡ ApiCause.Memory) }
+{
+    let VerbsRead {
+        verbs,
+        methods,
+        waiting,
+    } = verbs;
+    let inner = or_later(path_waiting(alloc, fault), waiting);
+    let waiting = waits(alloc, all.waiting, path, inner)?;
+    let path = copied(alloc, path)?;
+    let mut list = all.list;
+    match list.push(Resource { path, verbs }) {
+        Ok(()) => Ok(ResourcesRead {
+            list,
+            methods,
+            waiting,
+        }),
+        Err(_) => Err(no_memory(alloc)),
+    }
+}
+
+// The fault of the path at this place, where the first fault of all paths is this.
+fn own_fault(first: &Option<TreeFault>, i: u32) -> Option<TreeFault>
+    ensures { result ≡ own_fault_of first.now i }
+{
+    match first {
+        Some(TreeFault::BadPart(at)) => if *at == i {
+            Some(TreeFault::BadPart(*at))
+        } else {
+            None
+        },
+        Some(TreeFault::Clash(at)) => if *at == i {
+            Some(TreeFault::Clash(*at))
+        } else {
+            None
+        },
+        Some(TreeFault::GreedyNotLast(at)) => if *at == i {
+            Some(TreeFault::GreedyNotLast(*at))
+        } else {
+            None
+        },
+        Some(TreeFault::Memory) => None,
+        None => None,
+    }
+}
+
+// The names of the members of an object.
+fn names(alloc: Global, doc: &Doc, id: NodeId, count: u32) -> Result<Vec<Text>, ApiFault>
+    requires part { IsPart doc.now id }
+    requires count { count ≡ length (entries_of (form (part doc.now id))) }
+    ensures { MatchResult result (λ v. (v.items ≡ says.paths_of (entries_of (form (part doc.now id)))) × (count ≡ length v.items)) (λ e. e.cause ≡ ApiCause.Memory) }
+{
+    let mut names = Vec::new(alloc);
+    for i in 0..count {
+        let (member, _) = member_at(doc, id, i);
+        let name = copied(alloc, member)?;
+        let Ok(()) = names.push(name) else {
+            return Err(no_memory(alloc));
+        };
+    }
+    Ok(names)
+}
+
+/// The tree of paths, or the first fault of theirs.
+#[derive(Drop)]
+pub struct TreeRead {
+    pub tree: Option<Tree>,
+    pub fault: Option<TreeFault>,
+}
+
+fn build(alloc: Global, paths: &[Text]) -> Result<TreeRead, ApiFault>
+    ensures { MatchResult result (λ r. IsTreeFor paths.now r.tree r.fault) (λ e. e.cause ≡ ApiCause.Memory) }
+{
+    match Tree::build(alloc, paths) {
+        Ok(tree) => Ok(TreeRead {
+            tree: Some(tree),
+            fault: None,
+        }),
+        Err(TreeFault::Memory) => Err(no_memory(alloc)),
+        Err(fault) => Ok(TreeRead {
+            tree: None,
+            fault: Some(fault),
+        }),
+    }
+}
+
+// A resource more, which stands at this place.
+fn add_resource(
+    alloc: Global,
+    doc: &Doc,
+    fault: Option<TreeFault>,
+    all: ResourcesRead,
+    name: &str,
+    id: NodeId,
+) -> Result<ResourcesRead, ApiFault>
+    requires { IsPart doc.now id }
+    ensures { Reads (says.resource_added (root_tree doc.now) fault all name.now (part doc.now id)) result }
+{
+    let ResourcesRead {
+        list,
+        methods,
+        waiting,
+    } = all;
+    let verbs = read_verbs(alloc, doc, methods, name, id)?;
+    let all = ResourcesRead {
+        list,
+        methods: Seq::new(alloc),
+        waiting,
+    };
+    with_resource(alloc, all, name, fault, verbs)
+}
+
+// The resource that stands at this place, where the first fault of all paths is this.
+fn next_resource(
+    alloc: Global,
+    doc: &Doc,
+    paths: &[Text],
+    built: &TreeRead,
+    i: u32,
+    all: ResourcesRead,
+    name: &str,
+    id: NodeId,
+) -> Result<ResourcesRead, ApiFault>
+    requires part { IsPart doc.now id }
+    requires told { IsTold paths.now built.now.fault i all.waiting }
+    requires place { i ≡ length all.list }
+    requires within { i < length paths.now }
+    ensures read { Reads (says.resources_member (root_tree doc.now) paths.now all name.now (part doc.now id)) result }
+    ensures told { IfOk result (λ r. IsTold paths.now built.now.fault (i + 1) r.waiting) }
+    ensures place { IfOk result (λ r. i + 1 ≡ length r.list) }
+    ensures path { IfOk result (λ r. map says.path_of r.list ≡ map says.path_of all.list ++ name.now ∷ []) }
+{
+    let fault = own_fault(&built.fault, i);
+    add_resource(alloc, doc, fault, all, name, id)
+}
+
+/// The resources, and the tree of their paths; it is there where no fault waits.
+pub fn read_resources(
+    alloc: Global,
+    doc: &Doc,
+    name: &str,
+    id: NodeId,
+) -> Result<(ResourcesRead, Option<Tree>), ApiFault>
+    requires { IsPart doc.now id }
+    ensures read { ReadsAs (λ r. r.0) (says.resources_in (root_tree doc.now) name.now (part doc.now id)) result }
+    ensures tree { IfOk result (λ r. HasTree (map says.path_of r.0.list) r.0.waiting r.1) }
+{
+    let count = object(alloc, doc, name, id)?;
+    if count > RESOURCES {
+        return Err(bad(alloc, name));
+    }
+    let paths = names(alloc, doc, id, count)?;
+    let built = build(alloc, &paths)?;
+    let read = read_each(alloc, doc, &paths, &built, id, count)?;
+    Ok((read, built.tree))
+}
+
+fn read_each(
+    alloc: Global,
+    doc: &Doc,
+    paths: &[Text],
+    built: &TreeRead,
+    id: NodeId,
+    count: u32,
+) -> Result<ResourcesRead, ApiFault>
+    requires part { IsPart doc.now id }
+    requires built { IsTreeFor paths.now built.now.tree built.now.fault }
+    requires count { count ≡ length (entries_of (form (part doc.now id))) }
+    requires paths { paths.now ≡ says.paths_of (entries_of (form (part doc.now id))) }
+    requires many { count ≡ length paths.now }
+    ensures read { Reads (each (says.resources_member (root_tree doc.now) paths.now) says.no_resources (entries_of (form (part doc.now id)))) result }
+    ensures told { IfOk result (λ r. IsTold paths.now built.now.fault count r.waiting) }
+    ensures path { IfOk result (λ r. map says.path_of r.list ≡ paths.now) }
+{
+    let mut read = ResourcesRead {
+        list: Seq::new(alloc),
+        methods: Seq::new(alloc),
+        waiting: None,
+    };
+    for i in 0..count {
+        let (member, value) = member_at(doc, id, i);
+        read = match next_resource(alloc, doc, paths, built, i, read, member, value) {
+            Ok(read) => read,
+            Err(fault) => return Err(below(alloc, member, fault)),
+        };
+    }
+    Ok(read)
+}

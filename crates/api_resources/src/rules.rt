@@ -1,0 +1,197 @@
+// Response rules.
+ghost use Rattle.std.specs.Prelude.{◌≡◌, MatchResult};
+ghost use Rattle.std.specs.Fmt.{decimal};
+ghost use Rattle.json_subset.specs.Documents.{IsPart, part};
+ghost use Rattle.api_parts.specs.Reading.{Reads};
+ghost use Rattle.api_resources.specs.Rules as says;
+
+use crate::mapped::{Side, read_mappings};
+use api_members::values::{here_is, item_at, list, member_at, missing, number, object, unknown};
+use api_members::{pattern, read_templates, waits};
+use api_parts::{ApiCause, ApiFault, Mapping, ResponseRule, below, no_memory};
+use gw_base::{Seq, Text};
+use json_subset::{Doc, NodeId};
+use status_table::StatusTable;
+use std::alloc::Global;
+use vtl_reader::Template;
+
+/// What is read of a rule so far.
+#[derive(Drop)]
+pub struct RuleRead {
+    pub pattern: Option<StatusTable>,
+    pub status: Option<u16>,
+    pub parameters: Seq<Mapping>,
+    pub templates: Seq<(Text, Template)>,
+    pub waiting: Option<ApiFault>,
+}
+
+/// The rules that are read, whether one of them has no pattern, and the first fault of theirs that waits.
+#[derive(Drop)]
+pub struct RulesRead {
+    pub list: Seq<ResponseRule>,
+    pub has_default: bool,
+    pub waiting: Option<ApiFault>,
+}
+
+fn add_member(
+    alloc: Global,
+    doc: &Doc,
+    read: RuleRead,
+    name: &str,
+    id: NodeId,
+) -> Result<RuleRead, ApiFault>
+    requires { IsPart doc.now id }
+    ensures { Reads (says.rule_member read name.now (part doc.now id)) result }
+{
+    if name == "pattern" {
+        let table = pattern(alloc, doc, name, id)?;
+        return Ok(RuleRead {
+            pattern: Some(table),
+            ..read
+        });
+    }
+    if name == "status" {
+        let status = number(alloc, doc, 200, 599, name, id)?;
+        return Ok(RuleRead {
+            status: Some(status as u16),
+            ..read
+        });
+    }
+    if name == "parameters" {
+        let mappings = read_mappings(alloc, doc, Side::Response, "", name, id)?;
+        let waiting = waits(alloc, read.waiting, name, mappings.waiting)?;
+        return Ok(RuleRead {
+            parameters: mappings.list,
+            waiting,
+            ..read
+        });
+    }
+    if name == "templates" {
+        let templates = read_templates(alloc, doc, name, id)?;
+        return Ok(RuleRead { templates, ..read });
+    }
+    Err(unknown(alloc, name))
+}
+
+fn rule_of(alloc: Global, read: RuleRead) -> Result<(ResponseRule, Option<ApiFault>), ApiFault>
+    ensures { Reads (says.rule_of read) result }
+{
+    let RuleRead {
+        pattern,
+        status,
+        parameters,
+        templates,
+        waiting,
+    } = read;
+    match status {
+        Some(status) => Ok((
+            ResponseRule {
+                pattern,
+                status,
+                parameters,
+                templates,
+            },
+            waiting,
+        )),
+        None => Err(missing(alloc, "status")),
+    }
+}
+
+fn read_rule(
+    alloc: Global,
+    doc: &Doc,
+    name: &str,
+    id: NodeId,
+) -> Result<(ResponseRule, Option<ApiFault>), ApiFault>
+    requires { IsPart doc.now id }
+    ensures { Reads (says.rule_in name.now (part doc.now id)) result }
+{
+    let mut read = RuleRead {
+        pattern: None,
+        status: None,
+        parameters: Seq::new(alloc),
+        templates: Seq::new(alloc),
+        waiting: None,
+    };
+    let count = object(alloc, doc, name, id)?;
+    for i in 0..count {
+        let (member, value) = member_at(doc, id, i);
+        read = match add_member(alloc, doc, read, member, value) {
+            Ok(read) => read,
+            Err(fault) => return Err(below(alloc, member, fault)),
+        };
+    }
+    rule_of(alloc, read)
+}
+
+fn with_rule(
+    alloc: Global,
+    all: RulesRead,
+    name: &str,
+    rule: ResponseRule,
+    fault: Option<ApiFault>,
+) -> Result<RulesRead, ApiFault>
+    ensures { Reads (says.with_rule all name.now (rule, fault)) result }
+{
+    let is_default = rule.pattern.is_none();
+    if is_default && all.has_default {
+        return Err(here_is(alloc, ApiCause::TwoDefaults));
+    }
+    let waiting = waits(alloc, all.waiting, name, fault)?;
+    let has_default = all.has_default || is_default;
+    let mut list = all.list;
+    match list.push(rule) {
+        Ok(()) => Ok(RulesRead {
+            list,
+            has_default,
+            waiting,
+        }),
+        Err(_) => Err(no_memory(alloc)),
+    }
+}
+
+fn add_rule(
+    alloc: Global,
+    doc: &Doc,
+    all: RulesRead,
+    name: &str,
+    id: NodeId,
+) -> Result<RulesRead, ApiFault>
+    requires { IsPart doc.now id }
+    ensures { Reads (says.rules_member all name.now (part doc.now id)) result }
+{
+    let (rule, fault) = read_rule(alloc, doc, name, id)?;
+    with_rule(alloc, all, name, rule, fault)
+}
+
+// The name of an item: its number.
+fn item_name(alloc: Global, i: u32) -> Result<Text, ApiFault>
+    ensures { MatchResult result (λ name. name ≡ decimal i) (λ e. e.cause ≡ ApiCause.Memory) }
+{
+    match format!(in alloc; "{i}") {
+        Ok(text) => Ok(Text::of(text)),
+        Err(_) => Err(no_memory(alloc)),
+    }
+}
+
+/// The rules, in their order.
+pub fn read_rules(alloc: Global, doc: &Doc, name: &str, id: NodeId) -> Result<RulesRead, ApiFault>
+    requires { IsPart doc.now id }
+    ensures { Reads (says.rules_in name.now (part doc.now id)) result }
+{
+    let mut read = RulesRead {
+        list: Seq::new(alloc),
+        has_default: false,
+        waiting: None,
+    };
+    let count = list(alloc, doc, name, id)?;
+    for i in 0..count {
+        let value = item_at(doc, id, i);
+        let item = item_name(alloc, i)?;
+        read = match add_rule(alloc, doc, read, item.as_str(), value) {
+            Ok(read) => read,
+            Err(fault) => return Err(below(alloc, item.as_str(), fault)),
+        };
+    }
+    Ok(read)
+}

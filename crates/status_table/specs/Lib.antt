@@ -1,0 +1,2 @@
+-- the statuses that a pattern takes
+pub mod Statuses

@@ -2,7 +2,7 @@
 use Rattle.std.proofs.Common.{◌≡◌, ◌≤◌, ◌<◌, ◌+◌, ℕ, Bool, true, false, not, ◌&&◌, List, [], ◌∷◌, length, reverse, Option, Some, None, arith}
 use Rattle.std.specs.Prelude.{if◌then◌else◌}
 use Rattle.book_core.specs.Commands.{Outcome, unless, writes, first_refusal, commanded, deployed, put_api_tests, deploy_tests, put_stage_tests}
-use Rattle.book_core.specs.Definition.{Definition}
+use Rattle.api_model.specs.Definition.{Definition}
 use Rattle.book_core.specs.History.{reply, state_of, state_after, is_changing}
 use Rattle.book_core.specs.Machine.{State, opened, time_of, time_at, told, viewed, entered, reply_at, last_moment}
 use Rattle.book_core.specs.Rows.{Rows, deployment, stage_row, puts_definition, adds_deployment, puts_stage}

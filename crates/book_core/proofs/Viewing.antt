@@ -3,7 +3,7 @@ use Rattle.std.proofs.Common.{◌≡◌, ℕ, ◌+◌, ◌-◌, ◌==◌, Bool, 
 use Rattle.std.specs.Option.{option_map, option_and_then}
 use Rattle.std.specs.Str.{bytes_eq}
 use Rattle.std.proofs.lemmas.Slice.Eq.{bytes_eq-Decides}
-use Rattle.book_core.specs.Definition.{Definition}
+use Rattle.api_model.specs.Definition.{Definition}
 use Rattle.book_core.specs.Rows.{Rows, is_api, is_stage, api_behind, stage_behind, api_row, stage_row, deployment, numbered, with_definition, with_deployment, put_definition, put_stage, adjust, insert_before, Written, puts_definition, adds_deployment, puts_stage}
 use Rattle.book_core.specs.Commands.{Outcome, unless, writes, commanded, first_refusal, put_api_tests, deploy_tests, put_stage_tests, deployed, count_in}
 use Rattle.book_core.specs.Machine.{State, opened, time_of, viewed, entered, written_by, put_kept}

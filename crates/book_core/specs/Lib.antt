@@ -1,7 +1,5 @@
 -- the tests of the three commands, and what each writes
 pub mod Commands
--- what is said of a definition
-pub mod Definition
 -- histories: sizes, limits, and what stands after one
 pub mod History
 -- the machine: what an event comes to, and what it leaves

@@ -1,6 +1,6 @@
 -- The machine: what is replied to an event, and what stands after it.
 use Rattle.std.specs.Prelude.{ℕ, min, max, Bool, false, not, ◌&&◌, Option, Some, None, if◌then◌else◌}
-use Rattle.book_core.specs.Definition.{Definition}
+use Rattle.api_model.specs.Definition.{Definition}
 use Rattle.book_core.specs.Rows.{Rows, Written, put, stage_row, deployment}
 use Rattle.book_core.specs.Commands.{commanded}
 use Rattle.book_core.specs.declared.rows.StageRow.{StageRow}

@@ -4,7 +4,7 @@ use Rattle.std.specs.Option.{option_and_then}
 use Rattle.std.specs.Str.{bytes_eq}
 use Rattle.std.specs.Cmp.Lexicographic.{slice_cmp}
 use Rattle.std.specs.Ordering.{nat_cmp, is_gt}
-use Rattle.book_core.specs.Definition.{Definition}
+use Rattle.api_model.specs.Definition.{Definition}
 use Rattle.book_core.specs.declared.rows.ApiRow.{ApiRow}
 use Rattle.book_core.specs.declared.rows.StageRow.{StageRow}
 

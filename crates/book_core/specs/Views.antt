@@ -2,7 +2,7 @@
 use Rattle.std.specs.Prelude.{◌≡◌, ℕ, ◌+◌, ◌==◌, Bool, ◌&&◌, List, [], ◌∷◌, length, reverse, Option, Some, None, is_some, if◌then◌else◌}
 use Rattle.std.specs.Option.{option_map}
 use Rattle.std.specs.Str.{bytes_eq}
-use Rattle.book_core.specs.Definition.{Definition}
+use Rattle.api_model.specs.Definition.{Definition}
 use Rattle.book_core.specs.Rows.{Rows, api_row, stage_row, deployment}
 use Rattle.book_core.specs.Commands.{deployed}
 use Rattle.book_core.specs.Machine.{State, opened, time_of, viewed, written_by}

@@ -5,12 +5,12 @@ ghost use Rattle.book_core.specs.Rows.{api_row};
 ghost use Rattle.book_core.specs.Machine.{put_kept};
 ghost use Rattle.book_core.specs.Tables.{rows_of};
 
-use crate::api::Api;
 use crate::events::Command;
 use crate::names::{are_variables, is_name};
 use crate::replies::{Refusal, Reply};
 use crate::rows::StageRow;
 use crate::tables::Tables;
+use api_model::Api;
 use call_facts::Vars;
 use gw_base::{Memory, Shared, Text};
 use std::alloc::Global;

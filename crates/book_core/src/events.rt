@@ -1,4 +1,4 @@
-use crate::api::Api;
+use api_model::Api;
 use call_facts::{Kind, Vars};
 use gw_base::{Shared, Text};
 

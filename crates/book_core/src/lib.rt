@@ -24,7 +24,6 @@
 //! the last commands that were kept is a law, [`views_are_of_the_last_commands`].
 #![tactic(auto)]
 
-mod api;
 mod book;
 mod commands;
 mod current;
@@ -37,7 +36,7 @@ mod rows;
 mod sizes;
 mod tables;
 
-pub use api::Api;
+pub use api_model::Api;
 pub use book::{Book, StepFault};
 pub use call_facts::{Kind, Vars};
 pub use events::{Command, Entry, Event, Limits};

@@ -3,8 +3,8 @@ ghost use Rattle.std.specs.Prelude.{◌≡◌, ◌<◌, ◌≤◌, [], ◌∷◌
 ghost use Rattle.std.specs.List.{insert};
 ghost use Rattle.book_core.specs.Rows.{is_api, is_stage, api_behind, stage_behind as stage_behind_of, is_behind as is_behind_of, put_definition as put_definition_of, put_stage as put_stage_of, adjust, with_deployment};
 
-use crate::api::Api;
 use crate::rows::{ApiRow, StageRow};
+use api_model::Api;
 use gw_base::{Memory, Seq, Shared, Text};
 use std::alloc::Global;
 use std::cmp::Ordering;

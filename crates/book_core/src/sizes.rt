@@ -22,7 +22,7 @@ fn command_size(command: &Command) -> u128
 {
     match command {
         Command::PutApi { api, definition } => {
-            api.len() as u128 + definition.value().template().source().len() as u128
+            api.len() as u128 + definition.value().source().len() as u128
         }
         Command::Deploy { api } => api.len() as u128,
         Command::PutStage {

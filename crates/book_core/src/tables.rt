@@ -4,9 +4,9 @@ ghost use Rattle.std.specs.Option.{option_copied};
 ghost use Rattle.book_core.specs.Rows.{no_rows, api_row, stage_row, deployment as deployment_of, puts_definition, adds_deployment, puts_stage, put};
 ghost use Rattle.book_core.specs.Tables.{rows_of};
 
-use crate::api::Api;
 use crate::puts;
 use crate::rows::{ApiRow, StageRow};
+use api_model::Api;
 use gw_base::{Memory, Shared, Text};
 use std::alloc::Global;
 

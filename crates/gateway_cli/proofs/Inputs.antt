@@ -27,8 +27,8 @@ if_ok_of_longer n left (Ok status) Q h f = of_longer n left (λ input. Q input s
 if_ok_of_longer n left (Err e) Q h f = tt
 
 -- what an answer has, each has that follows from it
-pub if_ok_map : {E : Type 0} (r : Result ℕ E) (P Q : ℕ → Type 0) → ((status : ℕ) → P status → Q status) → IfOk r P → IfOk r Q
-if_ok_map (Ok status) P Q f h = f status h
+pub if_ok_map : {A E : Type 0} (r : Result A E) (P Q : A → Type 0) → ((x : A) → P x → Q x) → IfOk r P → IfOk r Q
+if_ok_map (Ok x) P Q f h = f x h
 if_ok_map (Err e) P Q f h = tt
 
 pub on_err_map : {E : Type 0} (r : Result ℕ E) (P Q : Type 0) → (P → Q) → OnErr r P → OnErr r Q

@@ -5,4 +5,5 @@ pub mod Numbers
 pub mod ByWords
 pub mod Playing
 pub mod Scripts
+pub mod Texts
 mod OneOutcome

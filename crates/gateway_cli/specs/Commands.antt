@@ -2,6 +2,7 @@
 use Rattle.std.specs.Prelude.{◌≡◌, ℕ, ◌==◌, Bool, true, false, not, ◌&&◌, ◌||◌, List, [], ◌∷◌, ◌++◌, codes, Option, Some, None, if◌then◌else◌}
 use Rattle.std.specs.Option.{is_some}
 use Rattle.std.specs.Str.{bytes_eq}
+use Rattle.gateway_cli.specs.Check.{check_of}
 use Rattle.gateway_cli.specs.Files.{Files}
 use Rattle.gateway_cli.specs.Play.{Output, Played, PlayedFront, IsFront}
 use Rattle.gateway_cli.specs.Printed.{line_feed}
@@ -27,22 +28,41 @@ render_names (word ∷ template ∷ body ∷ []) =
     if bytes_eq word (codes "render") && (is_argument template && is_argument body) then Some (template, body) else None
 render_names (word ∷ template ∷ body ∷ other ∷ words) = None
 
+-- the name of the file behind `check`
+abbrev pub check_name : List (List ℕ) → Option (List ℕ)
+check_name [] = None
+check_name (word ∷ []) = None
+check_name (word ∷ name ∷ []) = if bytes_eq word (codes "check") && is_argument name then Some name else None
+check_name (word ∷ name ∷ other ∷ words) = None
+
+-- the words are those of a command over files
+abbrev pub is_over_files : List (List ℕ) → Bool
+is_over_files words = is_some (render_names words) || is_some (check_name words)
+
 -- the words are those of a command
 abbrev pub is_command : List (List ℕ) → Bool
-is_command words = is_play words || is_some (render_names words)
+is_command words = is_play words || is_over_files words
 
 -- what is printed of words of no command
 abbrev pub usage : Output
 usage = record { text = codes "usage" ++ line_feed; status = 2 }
 
-abbrev pub render_or_usage : Files → Option (List ℕ × List ℕ) → Output
-render_or_usage files None = usage
-render_or_usage files (Some names) = render_of files names.0 names.1
+abbrev pub check_or_usage : Files → Option (List ℕ) → Output
+check_or_usage files None = usage
+check_or_usage files (Some name) = check_of files name
+
+abbrev pub named_output : Files → Option (List ℕ × List ℕ) → Option (List ℕ) → Output
+named_output files None checked = check_or_usage files checked
+named_output files (Some names) checked = render_of files names.0 names.1
+
+-- what is printed of words other than `play`, by the names behind `render` and behind `check`
+abbrev pub over_files : Files → List (List ℕ) → Output
+over_files files words = named_output files (render_names words) (check_name words)
 
 -- what the program prints with these words, this input and these files, by whether they are `play`
 abbrev pub OutcomeBy : Bool → List (List ℕ) → List ℕ → Files → Output → Type 0
 OutcomeBy true words input files output = Played input output
-OutcomeBy false words input files output = output ≡ render_or_usage files (render_names words)
+OutcomeBy false words input files output = output ≡ over_files files words
 
 unfoldable pub Outcome : List (List ℕ) → List ℕ → Files → Output → Type 0
 Outcome words input files output = OutcomeBy (is_play words) words input files output
@@ -50,7 +70,7 @@ Outcome words input files output = OutcomeBy (is_play words) words input files o
 -- and a front of it, where it is cut short
 abbrev pub OutcomeFrontBy : Bool → List (List ℕ) → List ℕ → Files → List ℕ → Type 0
 OutcomeFrontBy true words input files front = PlayedFront input front
-OutcomeFrontBy false words input files front = IsFront front (render_or_usage files (render_names words)).text
+OutcomeFrontBy false words input files front = IsFront front (over_files files words).text
 
 unfoldable pub OutcomeFront : List (List ℕ) → List ℕ → Files → List ℕ → Type 0
 OutcomeFront words input files front = OutcomeFrontBy (is_play words) words input files front

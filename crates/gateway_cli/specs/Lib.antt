@@ -1,5 +1,7 @@
 -- the calls of a script: a connection and its lines
 pub mod Calls
+-- what `check` prints of its file
+pub mod Check
 -- lines, fields and their coding
 pub mod Coding
 -- what the words ask for

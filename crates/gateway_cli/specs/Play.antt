@@ -50,7 +50,7 @@ refused number history fault = record { history = history; text = refused_line n
 
 -- the command that puts a text API
 abbrev pub put_api : List ℕ → List ℕ → Command
-put_api api template = command.PutApi api (record { text = true; source = template })
+put_api api template = command.PutApi api (record { is_text = true; source = template })
 
 -- a text API is put where its template is read
 abbrev pub put_text : Limits → ℕ → List Entry → ℕ → List ℕ → List ℕ → Result Items TemplateFault → Turn

@@ -14,11 +14,11 @@ use crate::printed::{full_line, refused_line, reply_line};
 use crate::reading::record_in;
 use crate::records::{LineFault, Record};
 use crate::turns::{End, Said};
-use book_core::{Api, Book, Command, Event, Reply, StepFault, Vars};
+use api_model::{Api, ApiCause, ApiFault};
+use book_core::{Book, Command, Event, Reply, StepFault, Vars};
 use gw_base::{Bytes, Memory, Seq, Shared, Text};
 use play_connection::Fullness;
 use std::alloc::Global;
-use vtl_grammar::TemplateFault;
 
 // Takes an event of the one seat, or tells that the history is full.
 fn taken(book: &mut Book, alloc: Global, event: Event) -> Result<Result<Reply, Fullness>, Memory>
@@ -83,8 +83,11 @@ fn put_text(
             let definition = Shared::new(alloc, definition)?;
             commanded(book, alloc, moment, Command::PutApi { api, definition })
         }
-        Err(TemplateFault::Memory) => Err(Memory),
-        Err(fault) => refused(alloc, number, LineFault::Template(fault)),
+        Err(ApiFault {
+            cause: ApiCause::Template(fault),
+            ..
+        }) => refused(alloc, number, LineFault::Template(fault)),
+        Err(_) => Err(Memory),
     }
 }
 

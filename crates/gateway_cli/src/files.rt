@@ -1,6 +1,7 @@
-// Asking for the files of `render`.
+// Asking for the files of `render` and of `check`.
 ghost use Rattle.std.specs.Prelude.{◌≡◌, ◌≤◌, ℕ, List, Some, IfOk, IsErrOf, Err, ◌≢◌};
 ghost use Rattle.gw_base.specs.Outside.{Rose};
+ghost use Rattle.gateway_cli.specs.Check.{check_of, checked_within};
 ghost use Rattle.gateway_cli.specs.Files.{Holds, within};
 ghost use Rattle.gateway_cli.specs.Render.{judged, render_of};
 ghost use Rattle.gateway_cli.specs.Top.{OfTold};
@@ -15,6 +16,9 @@ const TEMPLATE_LIMIT: usize = 307_200;
 
 /// The most bytes of a body's file.
 const BODY_LIMIT: usize = 10_485_760;
+
+/// The most bytes of a definition document's file.
+const DOCUMENT_LIMIT: usize = 1_048_576;
 
 // Asks for a file; one that is over its limit is answered as None.
 fn file_in<O: Outside>(
@@ -67,4 +71,18 @@ pub fn files_in<O: Outside>(
     }
     let second = file_in(alloc, outside, body, BODY_LIMIT)?;
     Ok((first, second))
+}
+
+/// Asks for a document's file; one that is over its limit is answered as None.
+pub fn document_in<O: Outside>(
+    alloc: Global,
+    outside: &mut O,
+    name: &str,
+) -> Result<Option<Bytes>, Stopped>
+    ensures read { IfOk result (λ read. OfTold (O.files outside.old) (λ files. checked_within read ≡ check_of files name.now)) }
+    ensures fault { IsErrOf result Stopped.File → Rose (O.faults outside.old) (O.faults outside.new) }
+    ensures input { result ≢ Err Stopped.Input }
+    ensures output { result ≢ Err Stopped.Output }
+{
+    file_in(alloc, outside, name, DOCUMENT_LIMIT)
 }

@@ -4,18 +4,20 @@ ghost use Rattle.std.specs.Bool.{MatchBool};
 ghost use Rattle.std.specs.Io.KnownBytes.{IsAtEnd};
 ghost use Rattle.gw_base.specs.Outside.{Rose};
 ghost use Rattle.gw_base.specs.Whole.{AppendsFront};
-ghost use Rattle.gateway_cli.specs.Commands.{Outcome, OutcomeFront, usage, is_command, is_play as is_play_of};
+ghost use Rattle.gateway_cli.specs.Check.{check_of};
+ghost use Rattle.gateway_cli.specs.Commands.{Outcome, OutcomeFront, usage, is_command, is_over_files, is_play as is_play_of, over_files as over_files_of};
 ghost use Rattle.gateway_cli.specs.Play.{Played, PlayedFront, is_command_status};
 ghost use Rattle.gateway_cli.specs.Render.{render_of};
 ghost use Rattle.gateway_cli.specs.Top.{OfTold, Answered, Says, SaysFront, Faulted};
 
-use crate::files::files_in;
+use crate::check::checked_within;
+use crate::files::{document_in, files_in};
 use crate::outside::Outside;
 use crate::play::play_within;
 use crate::render::judged;
 use crate::say::{say, say_fault, stop_of};
 use crate::stopped::Stopped;
-use crate::words::{is_play, render_names};
+use crate::words::{check_name, is_play, render_names};
 use book_core::Limits;
 use gw_base::{ReadAll, Sink, Source, Text, read_all};
 use std::alloc::Global;
@@ -95,6 +97,25 @@ fn render<W: Sink, O: Outside>(
     say(output, shown.text.as_str().as_bytes(), shown.status)
 }
 
+// Asks for the file of a document, and then reads it.
+fn check<W: Sink, O: Outside>(
+    alloc: Global,
+    name: &str,
+    output: &mut W,
+    outside: &mut O,
+) -> Result<u8, Stopped>
+    ensures answered { IfOk result (λ status. OfTold (O.files outside.old) (λ files. Answered (W.written output.old) (W.written output.new) (check_of files name.now) status)) }
+    ensures front { OnErr result (OfTold (O.files outside.old) (λ files. AppendsFront (W.written output.old) (W.written output.new) (check_of files name.now).text)) }
+    ensures known { IfOk result (λ status. is_command_status status ≡ true) }
+    ensures input { result ≢ Err Stopped.Input }
+    ensures file { IsErrOf result Stopped.File → Rose (O.faults outside.old) (O.faults outside.new) }
+    ensures output { IsErrOf result Stopped.Output → Rose (W.faults output.old) (W.faults output.new) }
+{
+    let document = document_in(alloc, outside, name)?;
+    let shown = checked_within(alloc, &document)?;
+    say(output, shown.text.as_str().as_bytes(), shown.status)
+}
+
 // Says that the words are none of a command.
 fn say_usage<W: Sink>(output: &mut W) -> Result<u8, Stopped>
     ensures answered { IfOk result (λ status. Answered (W.written output.old) (W.written output.new) usage status) }
@@ -105,6 +126,29 @@ fn say_usage<W: Sink>(output: &mut W) -> Result<u8, Stopped>
     ensures output { IsErrOf result Stopped.Output → Rose (W.faults output.old) (W.faults output.new) }
 {
     say(output, b"usage\n", 2)
+}
+
+// Does what words other than `play` say.
+fn over_files<W: Sink, O: Outside>(
+    alloc: Global,
+    words: &[Text],
+    output: &mut W,
+    outside: &mut O,
+) -> Result<u8, Stopped>
+    ensures answered { IfOk result (λ status. OfTold (O.files outside.old) (λ files. Answered (W.written output.old) (W.written output.new) (over_files_of files words.now) status)) }
+    ensures front { OnErr result (OfTold (O.files outside.old) (λ files. AppendsFront (W.written output.old) (W.written output.new) (over_files_of files words.now).text)) }
+    ensures known { IfOk result (λ status. MatchBool (is_over_files words.now) (is_command_status status ≡ true) (status ≡ 2)) }
+    ensures input { result ≢ Err Stopped.Input }
+    ensures file { IsErrOf result Stopped.File → Rose (O.faults outside.old) (O.faults outside.new) }
+    ensures output { IsErrOf result Stopped.Output → Rose (W.faults output.old) (W.faults output.new) }
+{
+    if let Some((template, body)) = render_names(words) {
+        return render(alloc, template, body, output, outside);
+    }
+    match check_name(words) {
+        Some(name) => check(alloc, name, output, outside),
+        None => say_usage(output),
+    }
 }
 
 // Does what the words say.
@@ -129,14 +173,11 @@ fn respond<I: Source, W: Sink, O: Outside>(
     if is_play(words) {
         return play(alloc, input, output);
     }
-    match render_names(words) {
-        Some((template, body)) => render(alloc, template, body, output, outside),
-        None => say_usage(output),
-    }
+    over_files(alloc, words, output, outside)
 }
 
-/// Does what the words say, and answers the status: 0 done, 1 a line, the script or a template was refused or a render
-/// stopped, 2 the words are none of a command, 3 the input, the output or a file failed, 4 the session is full, 5 memory is
+/// Does what the words say, and answers the status: 0 done, 1 a line, the script, a template or a document was refused or
+/// a render stopped, 2 the words are none of a command, 3 the input, the output or a file failed, 4 the session is full, 5 memory is
 /// wanting. The words are those behind the program's name.
 pub fn run<I: Source, W: Sink, O: Outside>(
     alloc: Global,

@@ -1,7 +1,7 @@
 // What the words ask for.
 ghost use Rattle.std.specs.Prelude.{◌≡◌};
 ghost use Rattle.std.specs.Option.{option_map};
-ghost use Rattle.gateway_cli.specs.Commands.{is_play as is_play_of, is_argument as is_argument_of, render_names as render_names_of};
+ghost use Rattle.gateway_cli.specs.Commands.{is_play as is_play_of, is_argument as is_argument_of, render_names as render_names_of, check_name as check_name_of};
 
 use gw_base::Text;
 
@@ -35,6 +35,21 @@ pub fn render_names(words: &[Text]) -> Option<(&str, &str)>
     let (template, body) = (template.as_str(), body.as_str());
     if word.as_str() == "render" && is_argument(template) && is_argument(body) {
         Some((template, body))
+    } else {
+        None
+    }
+}
+
+/// The name of the file behind `check`.
+pub fn check_name(words: &[Text]) -> Option<&str>
+    ensures { option_map (λ name. name.now) result ≡ check_name_of words.now }
+{
+    let [word, name] = words else {
+        return None;
+    };
+    let name = name.as_str();
+    if word.as_str() == "check" && is_argument(name) {
+        Some(name)
     } else {
         None
     }

@@ -78,10 +78,15 @@ abbrev pub text_made : Result (Rendered × Kept) (Stop × Kept) → Made
 text_made (Ok made) = record { answer = text_answer made.0.text; cause = None }
 text_made (Err met) = gateway_made ApiConfigurationError
 
+-- under a stage that has this view: a text API answers with its template, and an API of a document is not answered yet
+abbrev pub made_at : Bool → View → Request → Made
+made_at true view r =
+    text_made (rendering budget (meanings_at r (facts_of (api_name r.target) (stage_name r.target) view)) (expanded (tree_of view.api.source)) [])
+made_at false view r = gateway_made ApiConfigurationError
+
 -- to a whole message whose Enter was replied so
 abbrev pub made_by : Reply → Request → Made
-made_by (Entered view) r =
-    text_made (rendering budget (meanings_at r (facts_of (api_name r.target) (stage_name r.target) view)) (expanded (tree_of view.api.source)) [])
+made_by (Entered view) r = made_at view.api.is_text view r
 made_by reply r = gateway_made UnknownStage
 
 -- the size of a body is tested before its stage

@@ -4,7 +4,7 @@ ghost use Rattle.book_core.specs.Times.{IsInTime};
 ghost use Rattle.vtl_eval.specs.Meaning.{rendering};
 ghost use Rattle.vtl_grammar.specs.Expanded.{expanded};
 ghost use Rattle.vtl_grammar.specs.Templates.{tree_of};
-ghost use Rattle.play_connection.specs.Answering.{Made as made_data, message_body as message_body_of, gateway_answer as gateway_answer_of, gateway_made as gateway_made_of, text_answer as text_answer_of, nothing_found as nothing_found_of, facts_of as facts_of_view, meanings_at, budget, text_made as text_made_of, made_by as made_by_reply, made_for as made_for_message};
+ghost use Rattle.play_connection.specs.Answering.{Made as made_data, message_body as message_body_of, gateway_answer as gateway_answer_of, gateway_made as gateway_made_of, text_answer as text_answer_of, nothing_found as nothing_found_of, facts_of as facts_of_view, meanings_at, budget, text_made as text_made_of, made_at as made_at_view, made_by as made_by_reply, made_for as made_for_message};
 
 use book_core::{Reply, View};
 use call_facts::{CallFacts, Kind, Request};
@@ -136,17 +136,26 @@ fn text_made(
     }
 }
 
+// Under a stage that has this view; only text APIs are answered yet.
+fn made_at(alloc: Global, view: &View, request: &Request) -> Result<Made, Memory>
+    requires { view.now.at < 4102444800000 }
+    ensures { IfOk result (λ made. made_at_view view.now.api.is_text view.now request.now ≡ record { answer = made.answer; cause = made.cause }) }
+{
+    let Some(template) = view.api.value().text_template() else {
+        return gateway_made(alloc, Kind::ApiConfigurationError);
+    };
+    let target = request.target.as_str();
+    let facts = facts_of(alloc, api_name(target), stage_name(target), view)?;
+    text_made(alloc, template, request, &facts)
+}
+
 // To a whole message whose Enter was replied so.
 fn made_by(alloc: Global, reply: &Reply, request: &Request) -> Result<Made, Memory>
     requires { IsInTime reply.now }
     ensures { IfOk result (λ made. made_by_reply reply.now request.now ≡ record { answer = made.answer; cause = made.cause }) }
 {
     match reply {
-        Reply::Entered(view) => {
-            let target = request.target.as_str();
-            let facts = facts_of(alloc, api_name(target), stage_name(target), view)?;
-            text_made(alloc, view.api.value().template(), request, &facts)
-        }
+        Reply::Entered(view) => made_at(alloc, view, request),
         _ => gateway_made(alloc, Kind::UnknownStage),
     }
 }

@@ -1,7 +1,7 @@
 use Rattle.std.proofs.Common.{◌≡◌, true, false}
 use Rattle.gateway_cli.specs.Commands.{is_play}
-use Rattle.gateway_cli.proofs.Inputs.{if_ok_map, on_err_map, on_err_of}
-use Rattle.gateway_cli.proofs.ByWords.{of_play, of_play_front, of_render, of_render_front, of_usage, of_usage_front}
+use Rattle.gateway_cli.proofs.Inputs.{if_ok_map, on_err_map}
+use Rattle.gateway_cli.proofs.ByWords.{of_play, of_play_front, of_other, of_other_front}
 use Rattle.gateway_cli.proofs.program.respond.Goals as goal
 
 pub returns-then-is_play-clause-answered : goal.returns-then-is_play-clause-answered
@@ -18,33 +18,16 @@ returns-then-is_play-clause-front g c =
     (of_play_front (g.I.Source.left c.args.input.now) (g.O.Outside.files c.args.outside.now) c.args.words.now (g.W.Sink.written c.args.output.now) (g.W.Sink.written c.play.new.output) same)
     c.play.ensures.front
 
-pub returns-in-Some-clause-answered : goal.returns-in-Some-clause-answered
-returns-in-Some-clause-answered g c =
+pub returns-clause-answered : goal.returns-clause-answered
+returns-clause-answered g c =
     let other : is_play c.args.words.now ≡ false = cc (c.is_play.ensures, c.if-is_play.false) in
-    if_ok_map c.render.result _ _
-    (λ status. of_render (g.I.Source.left c.args.input.now) (g.O.Outside.files c.args.outside.now) c.args.words.now (g.W.Sink.written c.args.output.now) (g.W.Sink.written c.render.new.output) status
-    c.in-Some.template.now c.in-Some.body.now other c.in-Some.ensures)
-    c.render.ensures.answered
+    if_ok_map c.over_files.result _ _
+    (λ status. of_other (g.I.Source.left c.args.input.now) (g.O.Outside.files c.args.outside.now) c.args.words.now (g.W.Sink.written c.args.output.now) (g.W.Sink.written c.over_files.new.output) status other)
+    c.over_files.ensures.answered
 
-pub returns-in-Some-clause-front : goal.returns-in-Some-clause-front
-returns-in-Some-clause-front g c =
+pub returns-clause-front : goal.returns-clause-front
+returns-clause-front g c =
     let other : is_play c.args.words.now ≡ false = cc (c.is_play.ensures, c.if-is_play.false) in
-    on_err_map c.render.result _ _
-    (of_render_front (g.I.Source.left c.args.input.now) (g.O.Outside.files c.args.outside.now) c.args.words.now (g.W.Sink.written c.args.output.now) (g.W.Sink.written c.render.new.output)
-    c.in-Some.template.now c.in-Some.body.now other c.in-Some.ensures)
-    c.render.ensures.front
-
-pub returns-in-None-clause-answered : goal.returns-in-None-clause-answered
-returns-in-None-clause-answered g c =
-    let other : is_play c.args.words.now ≡ false = cc (c.is_play.ensures, c.if-is_play.false) in
-    if_ok_map c.say_usage.result _ _
-    (λ status. of_usage (g.I.Source.left c.args.input.now) (g.O.Outside.files c.args.outside.now) c.args.words.now (g.W.Sink.written c.args.output.now) (g.W.Sink.written c.say_usage.new.output) status
-    other c.in-None.ensures)
-    c.say_usage.ensures.answered
-
-pub returns-in-None-clause-front : goal.returns-in-None-clause-front
-returns-in-None-clause-front g c =
-    let other : is_play c.args.words.now ≡ false = cc (c.is_play.ensures, c.if-is_play.false) in
-    on_err_of c.say_usage.result _
-    (of_usage_front (g.I.Source.left c.args.input.now) (g.O.Outside.files c.args.outside.now) c.args.words.now (g.W.Sink.written c.args.output.now) (g.W.Sink.written c.say_usage.new.output)
-    other c.in-None.ensures c.say_usage.ensures.front)
+    on_err_map c.over_files.result _ _
+    (of_other_front (g.I.Source.left c.args.input.now) (g.O.Outside.files c.args.outside.now) c.args.words.now (g.W.Sink.written c.args.output.now) (g.W.Sink.written c.over_files.new.output) other)
+    c.over_files.ensures.front

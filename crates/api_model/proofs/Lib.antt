@@ -2,3 +2,5 @@
 pub mod Planted
 -- what a definition keeps
 pub mod Kept
+-- verbs lead to methods
+pub mod Ranges

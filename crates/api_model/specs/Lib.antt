@@ -8,3 +8,5 @@ pub mod Getters
 pub mod Views
 -- what a definition keeps
 pub mod Kept
+-- verbs lead to methods
+pub mod Ranges

@@ -1,5 +1,5 @@
 // A definition.
-ghost use Rattle.std.specs.Prelude.{◌≡◌, ◌⊎◌, ◌<◌, length, map, slice_get, IfErr, IfOk, MatchResult, None, OnOk, Some, Ok, Err, if◌then◌else◌};
+ghost use Rattle.std.specs.Prelude.{◌≡◌, ◌⊎◌, ◌<◌, length, map, slice_get, IfErr, IfOk, IfSome, MatchResult, None, OnOk, Some, Ok, Err, if◌then◌else◌};
 ghost use Rattle.std.specs.Option.{option_map};
 ghost use Rattle.api_members.specs.Models.{schemas_in};
 ghost use Rattle.api_resources.specs.Paths.{IsTree};
@@ -283,7 +283,8 @@ impl Api {
     /// The number of a resource's method of this verb, else of its method of `ANY`; `None` where it has neither.
     pub fn entry(&self, resource: u32, verb: &str) -> Option<u32>
         requires { resource < length (parts_of self.now).resources }
-        ensures { option_map (λ r. entry_of r.verbs verb.now) (slice_get (parts_of self.now).resources resource) ≡ Some result }
+        ensures method { option_map (λ r. entry_of r.verbs verb.now) (slice_get (parts_of self.now).resources resource) ≡ Some result }
+        ensures range { IfSome result (λ m. m < length (parts_of self.now).methods) }
     {
         let verbs = self.resource(resource).verbs.as_slice();
         match named(verbs, verb) {

@@ -8,7 +8,7 @@ use Rattle.api_model.specs.Definition.{document_parts, read_by}
 use Rattle.api_parts.specs.Reading.{Read, here}
 use Rattle.gateway_cli.specs.Check.{check_of, checked, checked_file, checked_within, reported}
 use Rattle.gateway_cli.specs.Files.{Files, content_of, Holds, within}
-use Rattle.gateway_cli.specs.Records.{body_limit}
+use Rattle.play_script.specs.Records.{body_limit}
 use Rattle.gateway_cli.specs.Render.{judged, rendered, rendered_files, render_of, template_limit}
 use Rattle.gateway_cli.specs.Top.{OfTold}
 use Rattle.gateway_cli.proofs.Inputs.{longer}

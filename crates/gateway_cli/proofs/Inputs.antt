@@ -1,6 +1,7 @@
 -- What holds of what the outside tells, and of some value where it tells none.
 use Rattle.std.proofs.Common.{◌≡◌, ℕ, zero, suc, ◌<◌, List, [], ◌∷◌, length, cond, Option, Some, None, IfSome, IfOk, OnErr, Result, Ok, Err, refl, sym, ap, arith}
 use Rattle.gateway_cli.specs.Top.{OfTold}
+pub use Rattle.play_script.proofs.Playing.{on_err_of}
 
 -- what holds of every value, of which there is one
 pub of_any : {A : Type 0} (some : A) (outside : Option A) (P : A → Type 0) → ((x : A) → P x) → OfTold outside P
@@ -34,10 +35,6 @@ if_ok_map (Err e) P Q f h = tt
 pub on_err_map : {E : Type 0} (r : Result ℕ E) (P Q : Type 0) → (P → Q) → OnErr r P → OnErr r Q
 on_err_map (Ok status) P Q f h = tt
 on_err_map (Err e) P Q f h = f h
-
-pub on_err_of : {E : Type 0} (r : Result ℕ E) (P : Type 0) → P → OnErr r P
-on_err_of (Ok v) P h = tt
-on_err_of (Err e) P h = h
 
 pub on_err_of_longer : {E : Type 0} (n : ℕ) (left : Option (List ℕ)) (r : Result ℕ E) (Q : List ℕ → Type 0) → IfSome left (λ told. n < length told)
     → ((input : List ℕ) → n < length input → OnErr r (Q input)) → OnErr r (OfTold left Q)

@@ -8,16 +8,16 @@ use Rattle.http_edge.specs.Replies.{IsReply}
 use Rattle.http_framing.specs.declared.fault.EdgeFault.{EdgeFault}
 use Rattle.play_connection.proofs.Once.{connects_once}
 use Rattle.play_connection.specs.Talks.{Said}
-use Rattle.gateway_cli.specs.Calls.{IsWhole, IsOther, IsNoWhole, IsOutcome, IsNoOutcome, AreOutcomes, BreaksOutcomes}
-use Rattle.gateway_cli.specs.Coding.{lines_of, is_passed_over}
+use Rattle.play_script.specs.Calls.{IsWhole, IsOther, IsNoWhole, IsOutcome, IsNoOutcome, AreOutcomes, BreaksOutcomes}
+use Rattle.play_script.specs.Coding.{lines_of, is_passed_over}
 use Rattle.gateway_cli.specs.Commands.{is_play, OutcomeBy, Outcome, OutcomeFrontBy, OutcomeFront, HasOneOutcome, FrontsAreOfTheOutcome}
 use Rattle.gateway_cli.specs.Files.{Files}
-use Rattle.gateway_cli.specs.Play.{Turn, Output, before, base_of, talked, IsTalk, IsCall, Does, DoesOrNot, PassesOrDoes, IsTurn, GoesOn, Plays, IsFront, GoesOnInFront, PlaysFront, PlayedBy, Played, PlayedFrontBy, PlayedFront, session_limits, script_limit}
-use Rattle.gateway_cli.specs.Records.{record_in}
-use Rattle.gateway_cli.specs.declared.records.LineFault.{LineFault}
-use Rattle.gateway_cli.specs.declared.records.Record.{Record}
-use Rattle.gateway_cli.specs.declared.records.Record.TheVariants.{PutText, Deploy, PutStage, Post, Call}
-use Rattle.gateway_cli.specs.declared.turns.End.{End}
+use Rattle.play_script.specs.Play.{Turn, Output, before, base_of, talked, IsTalk, IsCall, Does, DoesOrNot, PassesOrDoes, IsTurn, GoesOn, Plays, IsFront, GoesOnInFront, PlaysFront, PlayedBy, Played, PlayedFrontBy, PlayedFront, session_limits, script_limit}
+use Rattle.play_script.specs.Records.{record_in}
+use Rattle.play_script.specs.declared.records.LineFault.{LineFault}
+use Rattle.play_script.specs.declared.records.Record.{Record}
+use Rattle.play_script.specs.declared.records.Record.TheVariants.{PutText, Deploy, PutStage, Post, Call}
+use Rattle.play_script.specs.declared.turns.End.{End}
 
 -- outcomes
 

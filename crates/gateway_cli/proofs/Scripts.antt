@@ -1,14 +1,14 @@
 -- Scripts over their limit, and within it.
-use Rattle.gateway_cli.proofs.Playing.{nothing_front, says_front}
+use Rattle.play_script.proofs.Playing.{nothing_front, says_front}
 use Rattle.book_core.specs.declared.events.Limits.{Limits}
 use Rattle.std.proofs.Common.{◌≡◌, ℕ, Bool, ◌<◌, ◌≤◌, ◌++◌, true, false, nat_lt, List, [], length, Option, Result, Ok, Err, IfOk, OnOk, OnErr, refl, sym, ap, subst, arith}
 use Rattle.std.proofs.lemmas.Grind.{common_steps}
 use borrow.Author.Tests.{lt-ltb}
 use Rattle.std.specs.Io.KnownBytes.{Appends}
 use Rattle.gw_base.specs.Whole.{AppendsFront}
-use Rattle.gateway_cli.specs.Coding.{lines_of}
-use Rattle.gateway_cli.specs.Play.{Output, Plays, PlaysFront, PlayedBy, Played, PlayedFrontBy, PlayedFront, script_limit, session_limits, too_long, IsFront}
-use Rattle.gateway_cli.specs.Top.{Says, SaysFront}
+use Rattle.play_script.specs.Coding.{lines_of}
+use Rattle.play_script.specs.Play.{SaysFront, Output, Plays, PlaysFront, PlayedBy, Played, PlayedFrontBy, PlayedFront, script_limit, session_limits, too_long, IsFront}
+use Rattle.gateway_cli.specs.Top.{Says}
 
 over : (script : List ℕ) → 67108864 < length script → nat_lt script_limit (length script) ≡ true
 unfolding script_limit

@@ -9,8 +9,8 @@ use Rattle.api_parts.specs.Reading.{Read, here}
 use Rattle.api_parts.specs.declared.fault.ApiCause.TheVariants.{TooLong}
 use Rattle.api_parts.specs.declared.fault.ApiFault.{ApiFault}
 use Rattle.gateway_cli.specs.Files.{Files, content_of}
-use Rattle.gateway_cli.specs.Play.{Output}
-use Rattle.gateway_cli.specs.Printed.{line_feed, coded}
+use Rattle.play_script.specs.Play.{Output}
+use Rattle.play_script.specs.Printed.{line_feed, coded}
 
 -- a text as a field of a line; the empty text is `~`
 abbrev pub field : List ℕ → List ℕ

@@ -4,8 +4,8 @@ use Rattle.std.specs.Option.{is_some}
 use Rattle.std.specs.Str.{bytes_eq}
 use Rattle.gateway_cli.specs.Check.{check_of}
 use Rattle.gateway_cli.specs.Files.{Files}
-use Rattle.gateway_cli.specs.Play.{Output, Played, PlayedFront, IsFront}
-use Rattle.gateway_cli.specs.Printed.{line_feed}
+use Rattle.play_script.specs.Play.{Output, Played, PlayedFront, IsFront}
+use Rattle.play_script.specs.Printed.{line_feed}
 use Rattle.gateway_cli.specs.Render.{render_of}
 
 -- the words are `play` alone

@@ -13,9 +13,9 @@ use Rattle.vtl_eval.specs.Roots.{Kept}
 use Rattle.vtl_eval.specs.declared.stop.Rendered.{Rendered}
 use Rattle.vtl_eval.specs.declared.stop.Stop.{Stop}
 use Rattle.gateway_cli.specs.Files.{Files, content_of, within}
-use Rattle.gateway_cli.specs.Play.{Output, too_long}
-use Rattle.gateway_cli.specs.Printed.{line_feed}
-use Rattle.gateway_cli.specs.Records.{body_limit}
+use Rattle.play_script.specs.Play.{Output, too_long}
+use Rattle.play_script.specs.Printed.{line_feed}
+use Rattle.play_script.specs.Records.{body_limit}
 use Rattle.gateway_cli.specs.Requests.{render_request, render_facts}
 use Rattle.play_connection.specs.Answering.{budget, meanings_at}
 

@@ -5,8 +5,8 @@ use Rattle.gw_base.specs.Outside.{Rose}
 use Rattle.gw_base.specs.Whole.{AppendsFront}
 use Rattle.gw_base.specs.declared.outside.WriteStop.{WriteStop}
 use Rattle.gw_base.specs.declared.outside.WriteStop.TheVariants as write
-use Rattle.gateway_cli.specs.Play.{Output}
-use Rattle.gateway_cli.specs.Printed.{line_feed}
+use Rattle.play_script.specs.Play.{Output, SaysFront}
+use Rattle.play_script.specs.Printed.{line_feed}
 use Rattle.gateway_cli.specs.declared.stopped.Stopped.{Stopped}
 use Rattle.gateway_cli.specs.declared.stopped.Stopped.TheVariants as stopped
 
@@ -21,10 +21,6 @@ Answered old new output status = (status ≡ output.status) × Appends old new o
 -- such an output was written whole, and its status answered
 abbrev pub Says : Option (List ℕ) → Option (List ℕ) → (Output → Type 0) → ℕ → Type 0
 Says old new IsOutput status = (output : Output) × IsOutput output × Answered old new output status
-
--- such a front was written
-abbrev pub SaysFront : Option (List ℕ) → Option (List ℕ) → (List ℕ → Type 0) → Type 0
-SaysFront old new Front = (text : List ℕ) × Front text × Appends old new text
 
 -- such a front was written, and then a front of the line that names a fault
 abbrev pub SaysFault : Option (List ℕ) → Option (List ℕ) → (List ℕ → Type 0) → List ℕ → Type 0

@@ -3,13 +3,12 @@ ghost use Rattle.std.specs.Prelude.{◌≡◌, ◌⊎◌, [], true, Ok, Err, IfO
 ghost use Rattle.api_model.specs.Definition.{document as document_of, parts_of, stated};
 ghost use Rattle.api_parts.specs.Reading.{here};
 ghost use Rattle.gateway_cli.specs.Check.{accepted as accepted_of, checked as checked_of, checked_within as checked_within_of, field as field_of, refused as refused_of};
-ghost use Rattle.gateway_cli.specs.Play.{is_command_status};
+ghost use Rattle.play_script.specs.Play.{is_command_status};
 
-use crate::joined::joined;
-use crate::printed::coded;
 use crate::render::Shown;
 use api_model::{Api, ApiCause, ApiFault};
 use gw_base::{Bytes, Memory, Text};
+use play_script::{coded, joined};
 use std::alloc::Global;
 
 // A text as a field of a line.

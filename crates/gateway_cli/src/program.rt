@@ -6,20 +6,20 @@ ghost use Rattle.gw_base.specs.Outside.{Rose};
 ghost use Rattle.gw_base.specs.Whole.{AppendsFront};
 ghost use Rattle.gateway_cli.specs.Check.{check_of};
 ghost use Rattle.gateway_cli.specs.Commands.{Outcome, OutcomeFront, usage, is_command, is_over_files, is_play as is_play_of, over_files as over_files_of};
-ghost use Rattle.gateway_cli.specs.Play.{Played, PlayedFront, is_command_status};
+ghost use Rattle.play_script.specs.Play.{Played, PlayedFront, SaysFront, is_command_status};
 ghost use Rattle.gateway_cli.specs.Render.{render_of};
-ghost use Rattle.gateway_cli.specs.Top.{OfTold, Answered, Says, SaysFront, Faulted};
+ghost use Rattle.gateway_cli.specs.Top.{OfTold, Answered, Says, Faulted};
 
 use crate::check::checked_within;
 use crate::files::{document_in, files_in};
 use crate::outside::Outside;
-use crate::play::play_within;
 use crate::render::judged;
 use crate::say::{say, say_fault, stop_of};
 use crate::stopped::Stopped;
 use crate::words::{check_name, is_play, render_names};
 use book_core::Limits;
 use gw_base::{ReadAll, Sink, Source, Text, read_all};
+use play_script::play_within;
 use std::alloc::Global;
 
 /// The limits of a session.

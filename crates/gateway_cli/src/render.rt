@@ -3,17 +3,17 @@ ghost use Rattle.std.specs.Prelude.{◌≡◌, ◌<◌, [], true, Some, Ok, Err,
 ghost use Rattle.vtl_eval.specs.Meaning.{rendering};
 ghost use Rattle.vtl_grammar.specs.Expanded.{expanded};
 ghost use Rattle.vtl_grammar.specs.Templates.{read_of, tree_of};
-ghost use Rattle.gateway_cli.specs.Play.{is_command_status};
+ghost use Rattle.play_script.specs.Play.{is_command_status};
 ghost use Rattle.gateway_cli.specs.Render.{refused as refused_of, stopped as stopped_of, shown as shown_of, read_over as read_over_of, judged as judged_of};
 ghost use Rattle.play_connection.specs.Answering.{budget, meanings_at};
 ghost use Rattle.gateway_cli.specs.Requests.{render_request as render_request_of, render_facts as render_facts_of};
 
-use crate::joined::joined;
 use crate::requests::{render_facts, render_request};
 use call_facts::{CallFacts, Request};
 use gateway_vars::RequestRoots;
 use gw_base::{Bytes, Memory, Text};
 use play_connection::nothing_found;
+use play_script::joined;
 use std::alloc::Global;
 use vtl_eval::{Stop, render};
 use vtl_grammar::TemplateFault;

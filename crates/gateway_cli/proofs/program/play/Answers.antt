@@ -1,8 +1,8 @@
 use Rattle.std.proofs.Common.{[]}
-use Rattle.gateway_cli.specs.Play.{Played, PlayedFront}
-use Rattle.gateway_cli.specs.Top.{Says, SaysFront}
+use Rattle.play_script.specs.Play.{Played, PlayedFront, SaysFront}
+use Rattle.gateway_cli.specs.Top.{Says}
 use Rattle.gateway_cli.proofs.Inputs.{of_any, if_ok_of_longer, on_err_of_longer}
-use Rattle.gateway_cli.proofs.Playing.{says_nothing}
+use Rattle.play_script.proofs.Playing.{says_nothing}
 use Rattle.gateway_cli.proofs.Scripts.{none_played}
 use Rattle.gateway_cli.proofs.program.play.Goals as goal
 

@@ -1,5 +1,5 @@
 use Rattle.std.proofs.Common.{refl}
-use Rattle.gateway_cli.specs.Play.{session_limits}
+use Rattle.play_script.specs.Play.{session_limits}
 use Rattle.gateway_cli.proofs.Scripts.{plays_says, plays_front}
 use Rattle.gateway_cli.proofs.program.play_script.Goals as goal
 

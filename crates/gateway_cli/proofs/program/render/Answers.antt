@@ -1,6 +1,6 @@
 use Rattle.std.proofs.Common.{[]}
 use Rattle.gateway_cli.proofs.Inputs.{of_any, on_err_of}
-use Rattle.gateway_cli.proofs.Playing.{nothing}
+use Rattle.play_script.proofs.Playing.{nothing}
 use Rattle.gateway_cli.proofs.program.render.Goals as goal
 
 pub returns-in_err-template-clause-front : goal.returns-in_err-template-clause-front

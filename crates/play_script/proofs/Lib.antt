@@ -1,0 +1,8 @@
+-- how a play goes on, line by line
+pub mod Playing
+-- the first line of a text
+pub mod Lines
+-- numbers of digits
+pub mod Numbers
+-- texts that are put
+pub mod Texts

@@ -1,0 +1,10 @@
+-- the calls of a script: a connection and its lines
+pub mod Calls
+-- lines, fields and their coding
+pub mod Coding
+-- what a script does, and what it prints
+pub mod Play
+-- the lines that are printed
+pub mod Printed
+-- the records of a script
+pub mod Records

@@ -1,0 +1,44 @@
+-- The lines that are printed.
+use Rattle.std.specs.Prelude.{ℕ, List, [], ◌∷◌, codes}
+use Rattle.std.specs.Fmt.{decimal}
+use Rattle.std.specs.List.{concat}
+use Rattle.percent_encoding.specs.Percent.{percent_encode}
+use Rattle.vtl_grammar.specs.Printed.{printed}
+use Rattle.book_core.specs.Printed.{refusal_name}
+use Rattle.book_core.specs.declared.replies.Reply.{Reply}
+use Rattle.book_core.specs.declared.replies.Reply.TheVariants.{Entered, NoStage, Store, Left, Done, Deployed, Refused}
+use Rattle.play_script.specs.declared.coding.TheConstants.{CODED}
+use Rattle.play_script.specs.declared.records.LineFault.{LineFault}
+use Rattle.play_script.specs.declared.records.LineFault.TheVariants.{BadRecord, NotBuilt, Template}
+use Rattle.play_connection.specs.declared.ended.Fullness.{Fullness}
+
+abbrev pub line_feed : List ℕ
+line_feed = 10 ∷ []
+
+-- bytes in a line: each outside 33 to 126, and `%`, is coded by `%` and two upper-case hexadecimal digits
+abbrev pub coded : List ℕ → List ℕ
+coded bytes = percent_encode CODED bytes
+
+-- the line of a command's reply
+abbrev pub reply_line : Reply → List ℕ
+reply_line Done = concat (codes "done" ∷ line_feed ∷ [])
+reply_line (Deployed number) = concat (codes "deployed " ∷ decimal number ∷ line_feed ∷ [])
+reply_line (Refused refusal) = concat (codes "refused " ∷ refusal_name refusal ∷ line_feed ∷ [])
+reply_line Store = concat (codes "store" ∷ line_feed ∷ [])
+reply_line NoStage = []
+reply_line (Entered view) = []
+reply_line (Left closing) = []
+
+-- a line's fault and its place; an empty place is `~`
+abbrev pub line_fault : LineFault → List ℕ
+line_fault BadRecord = codes "BadRecord at ~"
+line_fault NotBuilt = codes "NotBuilt at ~"
+line_fault (Template fault) = concat (printed fault ∷ codes " at /text" ∷ [])
+
+-- the line that ends a play at a line of this number
+unfoldable pub refused_line : ℕ → LineFault → List ℕ
+refused_line number fault = concat (codes "refused line " ∷ decimal number ∷ codes " " ∷ line_fault fault ∷ line_feed ∷ [])
+
+-- the line that ends a play where the session is full
+unfoldable pub full_line : Fullness → List ℕ
+full_line full = concat (codes "full " ∷ decimal full.entries ∷ codes " " ∷ decimal full.bytes ∷ line_feed ∷ [])

@@ -1,0 +1,43 @@
+//! Scripts: calls and commands, line by line, over a book.
+//!
+//! [`play_within`] takes a script and an output. It reads the script line by line: each line is a record, whose fields are
+//! parted by one space, and a record is a command of the book or a connection with the bytes of its messages. It prints
+//! what each line comes to, and answers the status at which the play ends.
+//!
+//! ```text
+//! text 0 hello Hi%20$input.body!       done
+//! deploy 0 hello                       deployed 1
+//! stage 0 hello v1 1                   done
+//! post 0 0 hello v1 Ann                answer HTTP/1.1%20200%20OK%0D%0A..   and   ended Closed
+//! ```
+//!
+//! | line of a script | prints |
+//! |---|---|
+//! | empty, or begins with `#` | nothing |
+//! | `deploy 0 nope` | `refused NoApi`, and the play goes on |
+//! | `post 0 0 hello v2 Ann` | the 403 answer whose cause is `UNKNOWN_STAGE` |
+//! | `bogus 1` | `refused line 1 BadRecord at ~`, and the play ends with status 1 |
+//! | `key 0 k v on` | `refused line 1 NotBuilt at ~`, and the play ends with status 1 |
+//! | `stage 0 hello v1 1 env=x` | `done`, and `$stageVariables.env` is `x` in the answers of the stage |
+//!
+//! What is promised: what is written is `Plays` of `specs/Play.antt` to the byte, a definition that speaks of every script,
+//! or a front of it where a write is refused or memory is wanting; `specs/Coding.antt` says which lines and fields it has,
+//! `specs/Records.antt` which records they are, and `specs/Printed.antt` and `specs/Calls.antt` what is printed.
+//! [`coded`] writes bytes as a line has them, and [`joined`] puts parts of a line together.
+#![tactic(auto)]
+
+mod calls;
+mod coding;
+mod connections;
+mod fields;
+mod joined;
+mod outcomes;
+mod play;
+mod printed;
+mod reading;
+mod records;
+mod turns;
+
+pub use joined::joined;
+pub use play::play_within;
+pub use printed::coded;

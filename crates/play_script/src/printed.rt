@@ -1,0 +1,79 @@
+// The lines that are printed.
+ghost use Rattle.std.specs.Prelude.{◌≡◌, ◌<◌, ◌^◌, IfOk};
+ghost use Rattle.play_script.specs.Printed.{coded as coded_of, reply_line as reply_line_of, line_fault as line_fault_of, refused_line as refused_line_of, full_line as full_line_of};
+
+use crate::coding::CODED;
+use crate::joined::joined;
+use crate::records::LineFault;
+use book_core::Reply;
+use gw_base::{Memory, Text};
+use percent_encoding::percent_encode;
+use play_connection::Fullness;
+use std::alloc::Global;
+
+/// Bytes in a line.
+pub fn coded(alloc: Global, bytes: &[u8]) -> Result<Text, Memory>
+    ensures { IfOk result (λ text. text ≡ coded_of bytes.now) }
+{
+    let mut text = String::new(alloc);
+    percent_encode(bytes, CODED).append_to(&mut text)?;
+    Ok(Text::of(text))
+}
+
+/// The line of a command's reply.
+pub fn reply_line(alloc: Global, reply: &Reply) -> Result<Text, Memory>
+    ensures { IfOk result (λ line. line ≡ reply_line_of reply.now) }
+{
+    match reply {
+        Reply::Done => joined(alloc, &["done", "\n"]),
+        Reply::Deployed(number) => {
+            let number = number.to_string(alloc)?;
+            joined(alloc, &["deployed ", number.as_str(), "\n"])
+        }
+        Reply::Refused(refusal) => {
+            let name = refusal.to_string(alloc)?;
+            joined(alloc, &["refused ", name.as_str(), "\n"])
+        }
+        Reply::Store => joined(alloc, &["store", "\n"]),
+        Reply::NoStage | Reply::Entered(_) | Reply::Left { .. } => Ok(Text::of(String::new(alloc))),
+    }
+}
+
+fn line_fault(alloc: Global, fault: LineFault) -> Result<Text, Memory>
+    ensures { IfOk result (λ text. text ≡ line_fault_of fault) }
+{
+    match fault {
+        LineFault::BadRecord => Ok(Text::of(String::from_str(alloc, "BadRecord at ~")?)),
+        LineFault::NotBuilt => Ok(Text::of(String::from_str(alloc, "NotBuilt at ~")?)),
+        LineFault::Template(fault) => {
+            let fault = fault.to_string(alloc)?;
+            joined(alloc, &[fault.as_str(), " at /text"])
+        }
+    }
+}
+
+/// The line that ends a play at the line of this number.
+#[tactic(auto, unfolding(crate::specs::Printed::refused_line))]
+pub fn refused_line(alloc: Global, number: u64, fault: LineFault) -> Result<Text, Memory>
+    ensures { IfOk result (λ line. line ≡ refused_line_of number fault) }
+{
+    let number = number.to_string(alloc)?;
+    let fault = line_fault(alloc, fault)?;
+    joined(
+        alloc,
+        &["refused line ", number.as_str(), " ", fault.as_str(), "\n"],
+    )
+}
+
+/// The line that ends a play where the session is full.
+#[tactic(auto, unfolding(crate::specs::Printed::full_line))]
+pub fn full_line(alloc: Global, full: Fullness) -> Result<Text, Memory>
+    ensures { IfOk result (λ line. line ≡ full_line_of full) }
+{
+    let entries = full.entries.to_string(alloc)?;
+    let bytes = full.bytes.to_string(alloc)?;
+    joined(
+        alloc,
+        &["full ", entries.as_str(), " ", bytes.as_str(), "\n"],
+    )
+}

@@ -1,0 +1,316 @@
+// The record of a line.
+ghost use Rattle.std.specs.Prelude.{◌≡◌, ◌≢◌, ◌==◌, ◌<◌, length, position, Ok, Err, IfOk, IfErr, IfSome, OnOk};
+ghost use Rattle.std.specs.Option.{option_map};
+ghost use Rattle.play_script.specs.Records.{parted as parted_of, variable_of, variables_of, called as called_of, text_record as text_record_of, deploy_record as deploy_record_of, stage_record as stage_record_of, post_record as post_record_of, call_record as call_record_of, call_fields as call_fields_of, text_fields as text_fields_of, deploy_fields as deploy_fields_of, stage_fields as stage_fields_of, post_fields as post_fields_of, is_held_back as is_held_back_of, record_of as record_of_fields, record_in as record_in_line};
+
+use crate::fields::{fields_in, number, small_number, text_of};
+use crate::records::{LineFault, Record};
+use book_core::is_name;
+use gw_base::{Bytes, Memory, Seq, Text};
+use std::alloc::Global;
+
+/// A record, or why the line has none.
+type Reading = Result<Record, LineFault>;
+
+#[tactic(auto, unfolding(crate::specs::Records::text_record))]
+fn text_record(alloc: Global, moment: &[u8], api: &[u8], template: &[u8]) -> Result<Reading, Memory>
+    ensures { IfOk result (λ r. r ≡ text_record_of moment.now api.now template.now) }
+{
+    let Some(moment) = number(moment) else {
+        return Ok(Err(LineFault::BadRecord));
+    };
+    let Some(api) = text_of(alloc, api)? else {
+        return Ok(Err(LineFault::BadRecord));
+    };
+    let Some(template) = text_of(alloc, template)? else {
+        return Ok(Err(LineFault::BadRecord));
+    };
+    Ok(Ok(Record::PutText {
+        moment,
+        api,
+        template,
+    }))
+}
+
+#[tactic(auto, unfolding(crate::specs::Records::deploy_record))]
+fn deploy_record(alloc: Global, moment: &[u8], api: &[u8]) -> Result<Reading, Memory>
+    ensures { IfOk result (λ r. r ≡ deploy_record_of moment.now api.now) }
+{
+    let Some(moment) = number(moment) else {
+        return Ok(Err(LineFault::BadRecord));
+    };
+    let Some(api) = text_of(alloc, api)? else {
+        return Ok(Err(LineFault::BadRecord));
+    };
+    Ok(Ok(Record::Deploy { moment, api }))
+}
+
+fn equals_at(field: &[u8]) -> Option<usize>
+    ensures value { result ≡ position (λ b. b == 61) field.now }
+    ensures bound { IfSome result (λ at. at < length field.now) }
+{
+    field.iter().position(|b| *b == b'=')
+}
+
+// What stands before the first `=` and behind it.
+fn parted(field: &[u8]) -> Option<(&[u8], &[u8])>
+    ensures { option_map (λ p. (p.0.now, p.1.now)) result ≡ parted_of field.now }
+{
+    match equals_at(field) {
+        Some(at) => Some((&field[..at], &field[at + 1..])),
+        None => None,
+    }
+}
+
+fn variable(alloc: Global, field: &[u8]) -> Result<Option<(Text, Text)>, Memory>
+    ensures { IfOk result (λ pair. pair ≡ variable_of field.now) }
+{
+    let Some((name, value)) = parted(field) else {
+        return Ok(None);
+    };
+    let Some(name) = text_of(alloc, name)? else {
+        return Ok(None);
+    };
+    let Some(value) = text_of(alloc, value)? else {
+        return Ok(None);
+    };
+    Ok(Some((name, value)))
+}
+
+fn variables(alloc: Global, fields: &[Bytes]) -> Result<Option<Vec<(Text, Text)>>, Memory>
+    ensures { IfOk result (λ pairs. option_map (λ v. v.items) pairs ≡ variables_of fields.now) }
+{
+    let mut pairs = Vec::new(alloc);
+    for field in fields {
+        let Some(pair) = variable(alloc, field.as_slice())? else {
+            return Ok(None);
+        };
+        pairs.push(pair)?;
+    }
+    Ok(Some(pairs))
+}
+
+#[tactic(auto, unfolding(crate::specs::Records::stage_record))]
+fn stage_record(
+    alloc: Global,
+    moment: &[u8],
+    api: &[u8],
+    stage: &[u8],
+    deployment: &[u8],
+    fields: &[Bytes],
+) -> Result<Reading, Memory>
+    ensures { IfOk result (λ r. r ≡ stage_record_of moment.now api.now stage.now deployment.now fields.now) }
+{
+    let Some(moment) = number(moment) else {
+        return Ok(Err(LineFault::BadRecord));
+    };
+    let Some(api) = text_of(alloc, api)? else {
+        return Ok(Err(LineFault::BadRecord));
+    };
+    let Some(stage) = text_of(alloc, stage)? else {
+        return Ok(Err(LineFault::BadRecord));
+    };
+    let Some(deployment) = small_number(deployment) else {
+        return Ok(Err(LineFault::BadRecord));
+    };
+    let Some(variables) = variables(alloc, fields)? else {
+        return Ok(Err(LineFault::BadRecord));
+    };
+    Ok(Ok(Record::PutStage {
+        moment,
+        api,
+        stage,
+        deployment,
+        variables: Seq::of(variables),
+    }))
+}
+
+#[tactic(auto, unfolding(crate::specs::Records::post_record))]
+fn post_record(
+    alloc: Global,
+    moment: &[u8],
+    word: &[u8],
+    api: &[u8],
+    stage: &[u8],
+    body: &[u8],
+) -> Result<Reading, Memory>
+    ensures { IfOk result (λ r. r ≡ post_record_of moment.now word.now api.now stage.now body.now) }
+{
+    let Some(moment) = number(moment) else {
+        return Ok(Err(LineFault::BadRecord));
+    };
+    let Some(word) = number(word) else {
+        return Ok(Err(LineFault::BadRecord));
+    };
+    let Some(api) = text_of(alloc, api)? else {
+        return Ok(Err(LineFault::BadRecord));
+    };
+    let Some(stage) = text_of(alloc, stage)? else {
+        return Ok(Err(LineFault::BadRecord));
+    };
+    let Some(body) = text_of(alloc, body)? else {
+        return Ok(Err(LineFault::BadRecord));
+    };
+    if !(is_name(api.as_str()) && is_name(stage.as_str())) {
+        return Ok(Err(LineFault::BadRecord));
+    }
+    Ok(Ok(Record::Post {
+        moment,
+        word,
+        api,
+        stage,
+        body,
+    }))
+}
+
+fn copied(alloc: Global, fields: &[Bytes]) -> Result<Vec<Bytes>, Memory>
+    ensures { IfOk result (λ made. made.items ≡ fields.now) }
+{
+    let mut made = Vec::new(alloc);
+    for field in fields {
+        made.push(field.copy(alloc)?)?;
+    }
+    Ok(made)
+}
+
+#[tactic(auto, unfolding(crate::specs::Records::call_record))]
+fn call_record(
+    alloc: Global,
+    moment: &[u8],
+    word: &[u8],
+    bytes: &Bytes,
+    outcomes: &[Bytes],
+) -> Result<Reading, Memory>
+    ensures { IfOk result (λ r. r ≡ call_record_of moment.now word.now bytes.now outcomes.now) }
+{
+    let Some(moment) = number(moment) else {
+        return Ok(Err(LineFault::BadRecord));
+    };
+    let Some(word) = number(word) else {
+        return Ok(Err(LineFault::BadRecord));
+    };
+    Ok(Ok(Record::Call {
+        moment,
+        word,
+        bytes: bytes.copy(alloc)?,
+        outcomes: Seq::of(copied(alloc, outcomes)?),
+    }))
+}
+
+fn call_fields(alloc: Global, fields: &[Bytes]) -> Result<Reading, Memory>
+    ensures { IfOk result (λ r. r ≡ call_fields_of fields.now) }
+{
+    match fields {
+        [m, w, bytes, outcomes @ ..] => {
+            call_record(alloc, m.as_slice(), w.as_slice(), bytes, outcomes)
+        }
+        _ => Ok(Err(LineFault::BadRecord)),
+    }
+}
+
+fn text_fields(alloc: Global, fields: &[Bytes]) -> Result<Reading, Memory>
+    ensures { IfOk result (λ r. r ≡ text_fields_of fields.now) }
+{
+    match fields {
+        [m, a, t] => text_record(alloc, m.as_slice(), a.as_slice(), t.as_slice()),
+        _ => Ok(Err(LineFault::BadRecord)),
+    }
+}
+
+fn deploy_fields(alloc: Global, fields: &[Bytes]) -> Result<Reading, Memory>
+    ensures { IfOk result (λ r. r ≡ deploy_fields_of fields.now) }
+{
+    match fields {
+        [m, a] => deploy_record(alloc, m.as_slice(), a.as_slice()),
+        _ => Ok(Err(LineFault::BadRecord)),
+    }
+}
+
+fn stage_fields(alloc: Global, fields: &[Bytes]) -> Result<Reading, Memory>
+    ensures { IfOk result (λ r. r ≡ stage_fields_of fields.now) }
+{
+    match fields {
+        [m, a, s, d, variables @ ..] => stage_record(
+            alloc,
+            m.as_slice(),
+            a.as_slice(),
+            s.as_slice(),
+            d.as_slice(),
+            variables,
+        ),
+        _ => Ok(Err(LineFault::BadRecord)),
+    }
+}
+
+fn post_fields(alloc: Global, fields: &[Bytes]) -> Result<Reading, Memory>
+    ensures { IfOk result (λ r. r ≡ post_fields_of fields.now) }
+{
+    match fields {
+        [m, w, a, s, b] => post_record(
+            alloc,
+            m.as_slice(),
+            w.as_slice(),
+            a.as_slice(),
+            s.as_slice(),
+            b.as_slice(),
+        ),
+        _ => Ok(Err(LineFault::BadRecord)),
+    }
+}
+
+// Whether a record of this name belongs to a part that is not built.
+#[tactic(auto, unfolding(crate::specs::Records::is_held_back))]
+fn is_held_back(name: &[u8]) -> bool
+    ensures { result ≡ is_held_back_of name.now }
+{
+    name == b"keepfails".as_slice()
+        || name == b"api".as_slice()
+        || name == b"canary".as_slice()
+        || name == b"promote".as_slice()
+        || name == b"key".as_slice()
+        || name == b"plan".as_slice()
+        || name == b"join".as_slice()
+        || name == b"grant".as_slice()
+        || name == b"flush".as_slice()
+        || name == b"usage".as_slice()
+        || name == b"shutdown".as_slice()
+}
+
+#[tactic(auto, unfolding(crate::specs::Records::record_of))]
+fn record_of(alloc: Global, fields: &[Bytes]) -> Result<Reading, Memory>
+    ensures { IfOk result (λ r. r ≡ record_of_fields fields.now) }
+{
+    let [name, rest @ ..] = fields else {
+        return Ok(Err(LineFault::BadRecord));
+    };
+    let name = name.as_slice();
+    if name == b"text".as_slice() {
+        return text_fields(alloc, rest);
+    }
+    if name == b"deploy".as_slice() {
+        return deploy_fields(alloc, rest);
+    }
+    if name == b"stage".as_slice() {
+        return stage_fields(alloc, rest);
+    }
+    if name == b"post".as_slice() {
+        return post_fields(alloc, rest);
+    }
+    if name == b"call".as_slice() {
+        return call_fields(alloc, rest);
+    }
+    if is_held_back(name) {
+        return Ok(Err(LineFault::NotBuilt));
+    }
+    Ok(Err(LineFault::BadRecord))
+}
+
+/// The record of a line, or why it has none.
+pub fn record_in(alloc: Global, line: &[u8]) -> Result<Reading, Memory>
+    ensures { IfOk result (λ r. r ≡ record_in_line line.now) }
+{
+    match fields_in(alloc, line)? {
+        Some(fields) => record_of(alloc, &fields),
+        None => Ok(Err(LineFault::BadRecord)),
+    }
+}

@@ -32,3 +32,6 @@ pub use mappings::{
 pub use names::{is_name, is_token};
 pub use piece::Piece;
 pub use uri::{Uri, is_plain, read_uri};
+
+#[cfg(test)]
+mod tests;

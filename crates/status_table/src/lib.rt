@@ -24,3 +24,6 @@ mod table;
 
 pub use pattern_core::PatternFault;
 pub use table::{StatusTable, anchored};
+
+#[cfg(test)]
+mod tests;

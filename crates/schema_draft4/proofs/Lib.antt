@@ -5,3 +5,4 @@ pub mod Parted
 pub mod Linked
 pub mod Back
 pub mod Straight
+pub mod Sent

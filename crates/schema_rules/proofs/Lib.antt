@@ -4,3 +4,4 @@ pub mod Keywords
 pub mod Known
 pub mod Judged
 pub mod Nodes
+pub mod Sent

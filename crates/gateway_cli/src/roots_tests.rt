@@ -1,8 +1,8 @@
 // The values below the roots, as the documents show them, and the examples that use them.
-use crate::coding::CODED;
+use crate::render_tests::words;
 use crate::{MemOutside, run};
 use gw_base::{Bytes, MemSink, MemSource, Text};
-use percent_encoding::percent_encode;
+use play_script::coded;
 use std::alloc::Global;
 use std::test::Fail;
 
@@ -54,32 +54,20 @@ const ROOTS: [(&str, &str); 32] = [
     ("$!stageVariables.none", ""),
 ];
 
-fn coded(alloc: Global, text: &str) -> Result<String, Fail> {
-    let mut field = String::new(alloc);
-    percent_encode(text.as_bytes(), CODED).append_to(&mut field)?;
-    Ok(field)
-}
-
-fn words(alloc: Global, from: &[&str]) -> Result<Vec<Text>, Fail> {
-    let mut words = Vec::new(alloc);
-    for word in from {
-        words.push(Text::of(String::from_str(alloc, word)?))?;
-    }
-    Ok(words)
-}
-
 #[test]
 fn each_root_has_its_value(rt: HostRuntime) -> Result<(), Fail> {
     let alloc = rt.alloc();
     let play = words(alloc, &["play"])?;
-    let body = coded(alloc, BODY)?;
+    let body = coded(alloc, BODY.as_bytes())?;
     for (template, said) in &ROOTS {
-        let field = coded(alloc, template)?;
+        let field = coded(alloc, template.as_bytes())?;
+        let (field, body) = (field.as_str(), body.as_str());
         let script = format!(in alloc;
             "text 0 t {field}\ndeploy 0 t\nstage 0 t v1 1 env=x\npost 7 0 t v1 {body}\n"
         )?;
         let length = said.len();
-        let printed = coded(alloc, said)?;
+        let printed = coded(alloc, said.as_bytes())?;
+        let printed = printed.as_str();
         let answer = format!(in alloc;
             "done\ndeployed 1\ndone\nanswer HTTP/1.1%20200%20OK%0D%0Acontent-type:%20text/plain%0D%0Acontent-length:%20{length}%0D%0A%0D%0A{printed}\nended Closed\n"
         )?;

@@ -4,7 +4,7 @@ ghost use Rattle.book_core.specs.Rows.{no_rows};
 ghost use Rattle.play_script.specs.Calls.{post_target as post_target_of, post_fields as post_fields_of, post_bytes as post_bytes_of, answer_line as answer_line_of, full_lines as full_lines_of, connection_lines as connection_lines_of, end_of as end_of_connection};
 ghost use Rattle.play_script.specs.Play.{IsTalk};
 
-use crate::joined::joined;
+use crate::joining::joined;
 use crate::printed::{coded, full_line};
 use crate::turns::{End, Said};
 use book_core::Book;

@@ -30,7 +30,7 @@ mod calls;
 mod coding;
 mod connections;
 mod fields;
-mod joined;
+mod joining;
 mod outcomes;
 mod play;
 mod printed;
@@ -38,6 +38,6 @@ mod reading;
 mod records;
 mod turns;
 
-pub use joined::joined;
+pub use joining::joined;
 pub use play::play_within;
 pub use printed::coded;

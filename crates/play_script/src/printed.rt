@@ -3,7 +3,7 @@ ghost use Rattle.std.specs.Prelude.{◌≡◌, ◌<◌, ◌^◌, IfOk};
 ghost use Rattle.play_script.specs.Printed.{coded as coded_of, reply_line as reply_line_of, line_fault as line_fault_of, refused_line as refused_line_of, full_line as full_line_of};
 
 use crate::coding::CODED;
-use crate::joined::joined;
+use crate::joining::joined;
 use crate::records::LineFault;
 use book_core::Reply;
 use gw_base::{Memory, Text};

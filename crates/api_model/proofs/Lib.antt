@@ -2,3 +2,5 @@
 pub mod Planted
 -- what a definition keeps
 pub mod Kept
+-- what may cross threads
+pub mod Sent

@@ -4,3 +4,5 @@ pub mod Planted
 pub mod Kept
 -- verbs lead to methods
 pub mod Ranges
+-- what may cross threads
+pub mod Sent

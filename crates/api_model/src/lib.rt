@@ -23,12 +23,15 @@
 //! definition has none. `stated` is a function of the bytes: it reads the members in their order, by the definitions of
 //! `api_members` and `api_resources`.
 //!
+//! As a law, an `Api` may go to another thread and be shared with one ([`laws`]).
+//!
 //! Not promised: that what is stated is read, since want of memory is free. `authorizer`, `validator` and
 //! `model` look a part up by its number; no clause says that each number of a method is one of these.
 #![tactic(auto)]
 
 mod api;
 mod document;
+pub mod laws;
 
 pub use api::Api;
 pub use api_parts::{

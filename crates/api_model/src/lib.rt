@@ -38,3 +38,6 @@ pub use api_parts::{
     ApiCause, ApiFault, Authorizer, GatewayRule, Integration, IntegrationKind, Mapping, ModelFault,
     Origin, Parameter, ParameterPlace, Passthrough, ResponseRule, Validator,
 };
+
+#[cfg(test)]
+mod tests;

@@ -23,7 +23,8 @@
 //! definition has none. `stated` is a function of the bytes: it reads the members in their order, by the definitions of
 //! `api_members` and `api_resources`.
 //!
-//! As a law, an `Api` may go to another thread and be shared with one ([`laws`]).
+//! As laws ([`laws`]), an `Api` may go to another thread and be shared with one, and each verb of a resource has the number
+//! of a method, so [`Api::entry`] answers no other.
 //!
 //! Not promised: that what is stated is read, since want of memory is free. `authorizer`, `validator` and
 //! `model` look a part up by its number; no clause says that each number of a method is one of these.

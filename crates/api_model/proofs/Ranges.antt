@@ -1,6 +1,7 @@
 -- Verbs lead to methods.
 use Rattle.std.proofs.Common.{◌≡◌, ℕ, ◌<◌, ◌≤◌, ◌+◌, Bool, true, false, nat_le, cond, List, [], ◌∷◌, ◌++◌, length, length-append, codes, bytes_eq, Option, Some, None, IfSome, slice_get, Result, Ok, Err, refl, sym, subst, arith}
 use Rattle.std.specs.List.{All}
+use Rattle.std.specs.Option.{option_map}
 use Rattle.std.proofs.lemmas.List.Elements.{All-nil, All-head, All-tail, All-push, All-weaker}
 use Rattle.std.proofs.lemmas.Option.{slice_get_within, get_or_from_slice_get}
 use Rattle.json_subset.specs.Reading.{json}
@@ -33,15 +34,16 @@ bind_ok (Err fault) f y e = absurd cc
 
 -- what each member keeps, all keep
 module _ {G V : Type 0} (add : G → Text → V → Read G) (P : G → Type 0) (keeps : (g : G) (x : Text) (v : V) (h : G) → P g → add g x v ≡ Ok h → P h) where
+  one_keeps : (m : Text × V) (ms : List (Text × V)) (g h : G) → P g → ((more : G) → P more → each add more ms ≡ Ok h → P h)
+      → (r : Read G) → add g m.0 m.1 ≡ r → (under m.0 r >>= λ more. each add more ms) ≡ Ok h → P h
+  one_keeps m ms g h p rest (Ok more) is e = rest more (keeps g m.0 m.1 more p is) e
+  one_keeps m ms g h p rest (Err fault) is e = absurd cc
+
   each_keeps : (ms : List (Text × V)) (g h : G) → P g → each add g ms ≡ Ok h → P h
   each_keeps [] g h p e =
       let same : g ≡ h = cc in
       subst P same p
-  each_keeps (m ∷ ms) g h p e = member (add g m.0 m.1) refl e
-    where
-      member : (r : Read G) → add g m.0 m.1 ≡ r → (under m.0 r >>= λ more. each add more ms) ≡ Ok h → P h
-      member (Ok more) is e = each_keeps ms more h (keeps g m.0 m.1 more p is) e
-      member (Err fault) is e = absurd cc
+  each_keeps (m ∷ ms) g h p e = one_keeps m ms g h p (λ more q f. each_keeps ms more h q f) (add g m.0 m.1) refl e
 
 ok_same : {A : Type 0} (x y : A) → ◌≡◌ {A = Read A} (Ok x) (Ok y) → x ≡ y
 ok_same x y e = cc
@@ -184,23 +186,35 @@ always_lead d = parts (stated d) refl
 
 -- what is found under a verb
 
+chosen : (n : ℕ) (b : Bool) (m : ℕ) (other : Option ℕ) → m < n → IfSome other (λ m. m < n) → IfSome (cond b (Some m) other) (λ m. m < n)
+chosen n true m other one two = one
+chosen n false m other one two = two
+
 value_below : (n : ℕ) (verbs : List (Text × ℕ)) (x : Text) → AreBelow n verbs → IfSome (value_at verbs x) (λ m. m < n)
 value_below n [] x below = tt
-value_below n (v ∷ verbs) x below = found (bytes_eq v.0 x)
-  where
-    found : (b : Bool) → IfSome (cond b (Some v.1) (value_at verbs x)) (λ m. m < n)
-    found true = All-head (λ (v : Text × ℕ). v.1 < n) v verbs below
-    found false = value_below n verbs x (All-tail (λ (v : Text × ℕ). v.1 < n) v verbs below)
+value_below n (v ∷ verbs) x below =
+    chosen n (bytes_eq v.0 x) v.1 (value_at verbs x) (All-head (λ (v : Text × ℕ). v.1 < n) v verbs below)
+    (value_below n verbs x (All-tail (λ (v : Text × ℕ). v.1 < n) v verbs below))
 
 first_below : (n : ℕ) (first second : Option ℕ) → IfSome first (λ m. m < n) → IfSome second (λ m. m < n) → IfSome (or_second first second) (λ m. m < n)
 first_below n (Some m) second one two = one
 first_below n None second one two = two
 
 -- the entry of a resource is a method
-pub entry_leads : (d : Definition) (resource : ℕ) (r : Resource) (verb : Text) → slice_get (parts_of d).resources resource ≡ Some r
+entry_leads : (d : Definition) (resource : ℕ) (r : Resource) (verb : Text) → slice_get (parts_of d).resources resource ≡ Some r
     → IfSome (entry_of r.verbs verb) (λ m. m < length (parts_of d).methods)
 entry_leads d resource r verb at =
     let methods : ℕ = length (parts_of d).methods in
     let rs : List Resource = (parts_of d).resources in
     let below : AreBelow methods r.verbs = subst (λ (it : Resource). AreBelow methods it.verbs) (get_or_from_slice_get rs resource r r at) (always_lead d resource r (slice_get_within rs resource r at)) in
     first_below methods (value_at r.verbs verb) (value_at r.verbs (codes "ANY")) (value_below methods r.verbs verb below) (value_below methods r.verbs (codes "ANY") below)
+
+pub entry_below : (d : Definition) (resource : ℕ) (verb : Text) (result : Option ℕ) → option_map (λ (r : Resource). entry_of r.verbs verb) (slice_get (parts_of d).resources resource) ≡ Some result
+    → IfSome result (λ m. m < length (parts_of d).methods)
+entry_below d resource verb result e = found (slice_get (parts_of d).resources resource) refl e
+  where
+    found : (at : Option Resource) → slice_get (parts_of d).resources resource ≡ at → option_map (λ (r : Resource). entry_of r.verbs verb) at ≡ Some result → IfSome result (λ m. m < length (parts_of d).methods)
+    found (Some r) at e =
+        let same : entry_of r.verbs verb ≡ result = cc in
+        subst (λ o. IfSome o (λ m. m < length (parts_of d).methods)) same (entry_leads d resource r verb at)
+    found None at e = absurd cc

@@ -280,17 +280,26 @@ impl Api {
         self.resource(resource).path.as_str()
     }
 
-    /// The number of a resource's method of this verb, else of its method of `ANY`; `None` where it has neither.
-    pub fn entry(&self, resource: u32, verb: &str) -> Option<u32>
+    // The number under a verb, else under `ANY`.
+    fn number_under(&self, resource: u32, verb: &str) -> Option<u32>
         requires { resource < length (parts_of self.now).resources }
-        ensures method { option_map (λ r. entry_of r.verbs verb.now) (slice_get (parts_of self.now).resources resource) ≡ Some result }
-        ensures range { IfSome result (λ m. m < length (parts_of self.now).methods) }
+        ensures { option_map (λ r. entry_of r.verbs verb.now) (slice_get (parts_of self.now).resources resource) ≡ Some result }
     {
         let verbs = self.resource(resource).verbs.as_slice();
         match named(verbs, verb) {
             Some(number) => Some(*number),
             None => named(verbs, "ANY").copied(),
         }
+    }
+
+    /// The number of a resource's method of this verb, else of its method of `ANY`; `None` where it has neither.
+    #[tactic(auto, using(crate::proofs::Ranges::entry_below))]
+    pub fn entry(&self, resource: u32, verb: &str) -> Option<u32>
+        requires { resource < length (parts_of self.now).resources }
+        ensures method { option_map (λ r. entry_of r.verbs verb.now) (slice_get (parts_of self.now).resources resource) ≡ Some result }
+        ensures range { IfSome result (λ m. m < length (parts_of self.now).methods) }
+    {
+        self.number_under(resource, verb)
     }
 
     /// The verb of a method, or `ANY`.

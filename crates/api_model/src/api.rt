@@ -293,7 +293,6 @@ impl Api {
     }
 
     /// The number of a resource's method of this verb, else of its method of `ANY`; `None` where it has neither.
-    #[tactic(auto, using(crate::proofs::Ranges::entry_below))]
     pub fn entry(&self, resource: u32, verb: &str) -> Option<u32>
         requires { resource < length (parts_of self.now).resources }
         ensures method { option_map (λ r. entry_of r.verbs verb.now) (slice_get (parts_of self.now).resources resource) ≡ Some result }

@@ -4,5 +4,5 @@ pub mod Playing
 pub mod Lines
 -- numbers of digits
 pub mod Numbers
--- texts that are put
+-- text APIs that are refused
 pub mod Texts

@@ -83,10 +83,12 @@ fn put_text(
             let definition = Shared::new(alloc, definition)?;
             commanded(book, alloc, moment, Command::PutApi { api, definition })
         }
-        Err(ApiFault {
-            cause: ApiCause::Template(fault),
-            ..
-        }) => refused(alloc, number, LineFault::Template(fault)),
+        Err(
+            ApiFault {
+                cause: ApiCause::Template(fault),
+                ..
+            },
+        ) => refused(alloc, number, LineFault::Template(fault)),
         Err(_) => Err(Memory),
     }
 }

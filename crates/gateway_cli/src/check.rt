@@ -83,10 +83,12 @@ fn checked(alloc: Global, document: &[u8]) -> Result<Shown, Memory>
 {
     match Api::read(alloc, document) {
         Ok(api) => accepted(alloc, &api),
-        Err(ApiFault {
-            cause: ApiCause::Memory,
-            ..
-        }) => Err(Memory),
+        Err(
+            ApiFault {
+                cause: ApiCause::Memory,
+                ..
+            },
+        ) => Err(Memory),
         Err(fault) => refused(alloc, &fault),
     }
 }

@@ -38,16 +38,8 @@ const ROWS: [(&str, &str, u8); 14] = [
         "ok resources=2 methods=2 models=0\n",
         0,
     ),
-    (
-        "",
-        "refused Syntax(0) at ~\n",
-        1,
-    ),
-    (
-        "{\"version\":1}",
-        "refused Missing(resources) at ~\n",
-        1,
-    ),
+    ("", "refused Syntax(0) at ~\n", 1),
+    ("{\"version\":1}", "refused Missing(resources) at ~\n", 1),
     (
         "{\"version\":1,\"models\":{\"A\":{\"$ref\":\"#\"}},\"resources\":{}}",
         "refused RefCycle(#) at /models/A\n",
@@ -58,26 +50,14 @@ const ROWS: [(&str, &str, u8); 14] = [
         "refused Unclosed(0) at /resources/~1a/GET/integration/templates/application~1json\n",
         1,
     ),
-    (
-        "{\"a b\":1}",
-        "refused Unknown(a%20b) at /a%20b\n",
-        1,
-    ),
-    (
-        "{\"100%\":1}",
-        "refused Unknown(100%25) at /100%25\n",
-        1,
-    ),
+    ("{\"a b\":1}", "refused Unknown(a%20b) at /a%20b\n", 1),
+    ("{\"100%\":1}", "refused Unknown(100%25) at /100%25\n", 1),
     (
         "{\"é~/\":1}",
         "refused Unknown(%C3%A9~/) at /%C3%A9~0~1\n",
         1,
     ),
-    (
-        "{\"\":1}",
-        "refused Unknown(~) at /\n",
-        1,
-    ),
+    ("{\"\":1}", "refused Unknown(~) at /\n", 1),
     (
         "{\"version\":1,\"resources\":{\"/{a}/x\":{},\"/{b}/y\":{}}}",
         "refused Clash(1) at /resources/~1{b}~1y\n",
@@ -141,7 +121,10 @@ fn a_document_over_its_limit_is_refused(rt: HostRuntime) -> Result<(), Fail> {
     }
     let mut outside = document(alloc, most.as_bytes(), &[])?;
     let (status, output) = told(alloc, &["check", "d"], &mut outside)?;
-    assert_eq!(rt; output.bytes(), b"ok resources=0 methods=0 models=0\n".as_slice());
+    assert_eq!(rt;
+        output.bytes(),
+        b"ok resources=0 methods=0 models=0\n".as_slice()
+    );
     assert_eq!(rt; status, 0);
     most.push(' ')?;
     let mut outside = document(alloc, most.as_bytes(), &[])?;
@@ -166,7 +149,12 @@ fn a_document_that_cannot_be_had_is_told(rt: HostRuntime) -> Result<(), Fail> {
 #[test]
 fn words_beside_check_are_told(rt: HostRuntime) -> Result<(), Fail> {
     let alloc = rt.alloc();
-    let rows: [&[&str]; 4] = [&["check"], &["check", ""], &["check", "-d"], &["check", "d", "d"]];
+    let rows: [&[&str]; 4] = [
+        &["check"],
+        &["check", ""],
+        &["check", "-d"],
+        &["check", "d", "d"],
+    ];
     for from in rows {
         let mut outside = document(alloc, b"{}".as_slice(), &[])?;
         let (status, output) = told(alloc, from, &mut outside)?;

@@ -18,24 +18,46 @@ use Rattle.api_model.specs.contracts.document.PartsRead as PartsRead
 
 -- the fields in their order: models, validators, authorizers, resources, methods, the gateway's answers, the tree
 parts_send : IsSend PartsRead.the_row
-parts_send = declared_send PartsRead.the_type
-    (search (list.the_send, text.the_send, schema_send, sendable) depth 20,
-    (search (list.the_send, text.the_send, validator.the_send, sendable) depth 20,
-    (search (list.the_send, authorizer_send, sendable) depth 20,
-    (search (list.the_send, resource.the_send, sendable) depth 20,
-    (search (list.the_send, method.the_send, sendable) depth 20,
-    (search (list.the_send, text.the_send, gateway.the_send, sendable) depth 20,
-    (tree.the_send, tt)))))))
+parts_send = declared_send PartsRead.the_type (
+  search (list.the_send, text.the_send, schema_send, sendable) depth 20,
+  (
+    search (list.the_send, text.the_send, validator.the_send, sendable) depth 20,
+    (
+      search (list.the_send, authorizer_send, sendable) depth 20,
+      (
+        search (list.the_send, resource.the_send, sendable) depth 20,
+        (
+          search (list.the_send, method.the_send, sendable) depth 20,
+          (
+            search (list.the_send, text.the_send, gateway.the_send, sendable) depth 20,
+            (tree.the_send, tt),
+          ),
+        ),
+      ),
+    ),
+  ),
+)
 
 parts_sync : IsSync PartsRead.the_row
-parts_sync = declared_sync PartsRead.the_type
-    (search (list.the_sync, text.the_sync, schema_sync, sendable) depth 20,
-    (search (list.the_sync, text.the_sync, validator.the_sync, sendable) depth 20,
-    (search (list.the_sync, authorizer_sync, sendable) depth 20,
-    (search (list.the_sync, resource.the_sync, sendable) depth 20,
-    (search (list.the_sync, method.the_sync, sendable) depth 20,
-    (search (list.the_sync, text.the_sync, gateway.the_sync, sendable) depth 20,
-    (tree.the_sync, tt)))))))
+parts_sync = declared_sync PartsRead.the_type (
+  search (list.the_sync, text.the_sync, schema_sync, sendable) depth 20,
+  (
+    search (list.the_sync, text.the_sync, validator.the_sync, sendable) depth 20,
+    (
+      search (list.the_sync, authorizer_sync, sendable) depth 20,
+      (
+        search (list.the_sync, resource.the_sync, sendable) depth 20,
+        (
+          search (list.the_sync, method.the_sync, sendable) depth 20,
+          (
+            search (list.the_sync, text.the_sync, gateway.the_sync, sendable) depth 20,
+            (tree.the_sync, tt),
+          ),
+        ),
+      ),
+    ),
+  ),
+)
 
 -- the form, the source, the template, the parts, and three numbers
 pub api_send : IsSend Api.the_row

@@ -1,6 +1,6 @@
 -- what a source and a sink in memory hold, and what their calls do
 pub mod Feed
--- what a short name may hold
+-- what names may be, and when two are the same
 pub mod Names
 -- when a count of faults rose, and what a refused call says of it
 pub mod Outside

@@ -8,6 +8,7 @@
 //! * [`MemSource`], [`MemSink`], [`FixedClock`] and [`SplitMix`] are these in memory. The calls of a `MemSource` and of
 //!   a `MemSink` that are named by number fail, and no others.
 //! * [`read_all`] and [`write_all`] move whole inputs and outputs.
+//! * [`is_name`], [`is_token`], [`same_name`] and [`lower`] are the tests and the forms of names that several crates share.
 //!
 //! ```text
 //! let mut input = MemSource::new(bytes, 2, fails);         // two bytes a read
@@ -27,6 +28,7 @@
 mod lists;
 mod memory;
 mod name;
+mod naming;
 mod outside;
 mod readings;
 mod texts;
@@ -35,6 +37,7 @@ mod whole;
 pub use lists::{Seq, Shared};
 pub use memory::{MemSink, MemSource};
 pub use name::Name;
+pub use naming::{is_name, is_token, lower, same_name};
 pub use outside::{Failed, Memory, Sink, Source, WriteStop};
 pub use readings::{Clock, FixedClock, SplitMix, Words};
 pub use texts::{Bytes, Text};

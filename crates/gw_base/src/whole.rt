@@ -1,5 +1,5 @@
 // Reading a source to its end, and writing all of some bytes.
-ghost use Rattle.std.specs.Prelude.{◌≡◌, ◌≤◌, ◌<◌, ◌-◌, List, ℕ, length, IfOk, IfSome, OnOk, OnErr, IsErrOf, Some};
+ghost use Rattle.std.specs.Prelude.{◌≡◌, ◌≢◌, ◌≤◌, ◌<◌, ◌-◌, Err, List, ℕ, length, IfOk, IfSome, OnOk, OnErr, IsErrOf, Some};
 ghost use Rattle.std.specs.Io.KnownBytes.{Appends, IsAtEnd};
 ghost use Rattle.gw_base.specs.declared.outside.WriteStop.TheVariants.{Memory as memory_stop};
 ghost use Rattle.gw_base.specs.declared.whole.ReadAll.TheVariants.{Memory as no_memory};
@@ -41,6 +41,9 @@ pub fn read_all<S: Source>(alloc: Global, source: &mut S, limit: usize) -> Resul
     ensures too_long { IsErrOf result ReadAll.TooLong → IfSome (S.left source.old) (λ bytes. limit < length bytes) }
     ensures fault { IsErrOf result ReadAll.Fault → Rose (S.faults source.old) (S.faults source.new) }
     ensures later { S.faults source.old ≤ S.faults source.new }
+
+    // The count of faults rises in no other case.
+    ensures kept { (result ≢ Err ReadAll.Fault) → S.faults source.new ≡ S.faults source.old }
     ensures beside { S.beside source.new ≡ S.beside source.old }
 {
     let mut out = Vec::new(alloc);

@@ -38,7 +38,7 @@ module _ {M E B : Type 0} (history : M → List E) (base_of : M → B) (seat_of 
       let a : 1 ≡ seats - length (range_with_len 1 (seats - 1)) = omega (arith, len) in λ i. range_with_len (a i) (sym len i)
 
   first_knows : 1 ≤ seats → Knows seat_of seats base [] 0 (first_view seats base).known
-  first_knows some_of = record { sized = refl; based = refl; seen = prefix_self []; own = refl; listed = (refl, every_blank seat_of (range_with_len 1 (seats - 1))); spare = first_spare some_of }
+  first_knows some_of = record { sized = refl; based = refl; seen = prefix_self []; merged = tt; own = refl; listed = (refl, every_blank seat_of (range_with_len 1 (seats - 1))); spare = first_spare some_of }
 
   pub opens : (x : M) → history x ≡ [] → base_of x ≡ base → 1 ≤ seats → seats < 2 ^ 32 → Rule (opening (0 ∷ 0 ∷ 0 ∷ []) (Some x ∷ []) (first_view seats base))
   opens x fresh ours some_of few = let k = (first_view {E = E} seats base).known in record {
@@ -74,6 +74,7 @@ module _ {M E B : Type 0} (history : M → List E) (base_of : M → B) (seat_of 
     record {
       same = refl;
       own = knows.own;
+      merged = knows.merged;
       spare = subst (λ n. IsSpare n k.spare) (sym knows.sized) knows.spare;
       room = omega (arith, total_part rooms s.views id (view Idle k) at, r.shared, knows.sized);
       few = omega (arith, r.few, knows.sized);
@@ -121,6 +122,7 @@ module _ {M E B : Type 0} (history : M → List E) (base_of : M → B) (seat_of 
               sized = knows.sized;
               based = knows.based;
               seen = knows.seen;
+              merged = knows.merged;
               own = knows.own;
               listed = (
                 knows.listed.0,
@@ -135,6 +137,7 @@ module _ {M E B : Type 0} (history : M → List E) (base_of : M → B) (seat_of 
               sized = knows.sized;
               based = knows.based;
               seen = knows.seen;
+              merged = tt;
               own = no_earlier seat_of w.known.number k.seen r.log knows.seen none_yet;
               listed = (none_yet, tt);
               spare = refl;
@@ -179,6 +182,11 @@ module _ {M E B : Type 0} (history : M → List E) (base_of : M → B) (seat_of 
     hk.own ∙ same_between k.number k.seen l.seen log (prefix_shorter k.seen l.seen log hk.seen hl.seen (omega (arith, ltb-true (length k.seen) (length l.seen) is))) hl.seen (sym hk.own ∙ hk.listed.0),
   )
 
+  -- the longer of two beginnings of one history begins with either
+  longer_begins : (log k l : List E) → IsPrefix k log → IsPrefix l log → (b : Bool) → ltb (length k) (length l) ≡ b → IsPrefix k (cond b l k) × IsPrefix l (cond b l k)
+  longer_begins log k l pk pl true is = (prefix_shorter k l log pk pl (omega (arith, ltb-true (length k) (length l) is)), prefix_self l)
+  longer_begins log k l pk pl false is = (prefix_self k, prefix_shorter l k log pl pk (dite (dec_le (length l) (length k)) (λ le. le) (λ lt. absurd (ne_ltb (length k) (length l) (omega arith) is))))
+
   longer_is : (log k l : List E) → IsPrefix k log → IsPrefix l log → (k ≡ log) ⊎ (l ≡ log) → (b : Bool) → ltb (length k) (length l) ≡ b → cond b l k ≡ log
   longer_is log k l pk pl top true is = ⊎_elim (λ (e : k ≡ log). absurd (omega (arith, ltb-true (length k) (length l) is, prefix_length l log pl, ap length e))) (λ (e : l ≡ log). e) top
   longer_is log k l pk pl top false is = ⊎_elim (λ (e : k ≡ log). e)
@@ -220,6 +228,7 @@ module _ {M E B : Type 0} (history : M → List E) (base_of : M → B) (seat_of 
       let hk = r.each id v at in
       let hl = r.each other w there' in
       let seen = longer_seen r.log r.serves k l hk hl (ltb (length k.seen) (length l.seen)) refl in
+      let behind = longer_begins r.log k.seen l.seen hk.seen hl.seen (ltb (length k.seen) (length l.seen)) refl in
       let listed : Every (λ p. p.1 ≡ entries_of seat_of p.0 r.log) (shares b.known) = (
         hk.listed.0,
         every_append _ (k.ended ++ (l.number, l.mine) ∷ l.ended) (map blank (k.spare ++ l.spare))
@@ -246,6 +255,7 @@ module _ {M E B : Type 0} (history : M → List E) (base_of : M → B) (seat_of 
               sized = hk.sized;
               based = hk.based;
               seen = seen.0;
+              merged = (behind.0, (behind.1, tt));
               own = seen.1;
               listed = listed;
               spare = one_spares seats k.spare l.spare hk.spare hl.spare (omega (arith, fits, length_shares k, length_shares l)) last_once;

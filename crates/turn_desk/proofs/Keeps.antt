@@ -19,7 +19,7 @@ use Rattle.turn_desk.specs.Entries.{entries_of}
 use Rattle.turn_desk.specs.Rule.{Knows, Stands, Stored, Ruled}
 use Rattle.turn_desk.specs.Steps.{looked, commits_to, committed, drew, served}
 use Rattle.turn_desk.specs.Views.{tickets_of, in_line, serving, numbers, view, shares, held, holds_of, IsSeen}
-use Rattle.turn_desk.proofs.Prefixes.{prefix_self, prefix_trans}
+use Rattle.turn_desk.proofs.Prefixes.{every_behind, prefix_self, prefix_trans}
 use Rattle.turn_desk.proofs.Totals.{total-set, total_part, total_parts, total-same, total_below, total_less, bit_same, bit_other}
 
 mod_same : (a : ℕ) → (a % 2 ^ 64 + 0) % 2 ^ 64 ≡ a % 2 ^ 64
@@ -235,6 +235,7 @@ module _ {M E B : Type 0} (history : M → List E) (base_of : M → B) (seat_of 
       sized = h.sized;
       based = h.based;
       seen = prefix_trans k.seen log (log ++ e ∷ []) h.seen (e ∷ [], refl);
+      merged = h.merged;
       own = h.own;
       listed = listed_more seat_of log e (shares k) none_of h.listed;
       spare = h.spare;
@@ -248,8 +249,8 @@ module _ {M E B : Type 0} (history : M → List E) (base_of : M → B) (seat_of 
     stands_more serves Spent k idle none_of h = tt
 
   stands_on : (log : List E) (serves : ℕ) (p : Phase E) (k : Known E B) → serving p ≡ 0 → Stands seat_of seats base log serves p k → Stands seat_of seats base log (serves + 1) p k
-  stands_on log serves Idle k idle h = record { sized = h.sized; based = h.based; seen = h.seen; own = h.own; listed = h.listed; spare = h.spare }
-  stands_on log serves (Waiting t) k idle h = record { sized = h.sized; based = h.based; seen = h.seen; own = h.own; listed = h.listed; spare = h.spare }
+  stands_on log serves Idle k idle h = record { sized = h.sized; based = h.based; seen = h.seen; merged = h.merged; own = h.own; listed = h.listed; spare = h.spare }
+  stands_on log serves (Waiting t) k idle h = record { sized = h.sized; based = h.based; seen = h.seen; merged = h.merged; own = h.own; listed = h.listed; spare = h.spare }
   stands_on log serves (Turn t found) k idle h = absurd (omega (arith, idle))
   stands_on log serves (Committed t) k idle h = absurd (omega (arith, idle))
   stands_on log serves Spent k idle h = tt
@@ -292,6 +293,7 @@ module _ {M E B : Type 0} (history : M → List E) (base_of : M → B) (seat_of 
               sized = knows.sized;
               based = knows.based;
               seen = subst (λ l. IsPrefix l log) (sym now) (prefix_self log);
+              merged = every_behind k.merged k.seen (history x) (subst (IsPrefix k.seen) (sym now) (prefix_trans k.seen r.log log knows.seen (e ∷ [], refl))) knows.merged;
               own = refl;
               listed = (ap (entries_of seat_of k.number) now, listed_more seat_of r.log e _ rest_none knows.listed.1);
               spare = knows.spare;
@@ -335,6 +337,7 @@ module _ {M E B : Type 0} (history : M → List E) (base_of : M → B) (seat_of 
               sized = knows.sized;
               based = knows.based;
               seen = subst (λ l. IsPrefix l r.log) (sym now) (prefix_self r.log);
+              merged = every_behind k.merged k.seen (history x) (subst (IsPrefix k.seen) (sym now) knows.seen) knows.merged;
               own = refl;
               listed = (ap (entries_of seat_of k.number) now, knows.listed.1);
               spare = knows.spare;

@@ -1,6 +1,7 @@
 -- Beginnings of one list.
 use Rattle.std.proofs.Common.{◌≡◌, ◌≤◌, List, [], ◌∷◌, ◌++◌, length, refl, ap, sym, ◌∙◌, arith, append_assoc, length-append}
 use mathlib.Core.List.{IsPrefix}
+use Rattle.turn_desk.specs.Counts.{Every}
 
 -- each list begins with itself
 pub prefix_self : {A : Type 0} (xs : List A) → IsPrefix xs xs
@@ -27,6 +28,11 @@ prefix_whole [] (y ∷ ys) p le = absurd (omega arith)
 prefix_whole (x ∷ xs) [] p le = absurd (cc (p.1))
 prefix_whole (x ∷ xs) (y ∷ ys) p le =
     let rest = prefix_whole xs ys (p.0, cc (p.1)) (omega arith) in cc (p.1, rest)
+
+-- what begins one list begins each that goes on from it
+pub every_behind : {A : Type 0} (ls : List (List A)) (xs ys : List A) → IsPrefix xs ys → Every (λ l. IsPrefix l xs) ls → Every (λ l. IsPrefix l ys) ls
+every_behind [] xs ys p h = tt
+every_behind (l ∷ ls) xs ys p h = (prefix_trans l xs ys h.0 p, every_behind ls xs ys p h.1)
 
 pub prefix_length : {A : Type 0} (xs ys : List A) → IsPrefix xs ys → length xs ≤ length ys
 prefix_length xs ys p = omega (arith, sym (ap length p.1) ∙ length-append xs p.0)

@@ -21,6 +21,8 @@ module _ {E B : Type 0} (seat_of : E → ℕ) (seats : ℕ) (base : B) (log : Li
     pub based : k.base ≡ Some base
     -- a beginning of the history;
     pub seen : IsPrefix k.seen log
+    -- what the two had seen that it was made of, each a beginning of what it has seen;
+    pub merged : Every (λ xs. IsPrefix xs k.seen) k.merged
     -- its own entries, which are those of its number in what it has seen,
     pub own : k.mine ≡ entries_of seat_of k.number k.seen
     -- and, as each list that it has, the history's entries of that number;

@@ -4,6 +4,7 @@ use mathlib.Core.List.{IsPrefix}
 use Rattle.atomic_table.specs.Table.{Me, Step, rest}
 use Rattle.turn_desk.specs.declared.view.Phase.TheVariants.{Idle, Waiting, Turn}
 use Rattle.turn_desk.specs.declared.view.View.{View}
+use Rattle.turn_desk.specs.Counts.{Every}
 use Rattle.turn_desk.specs.Entries.{entries_of, history_in}
 use Rattle.turn_desk.specs.Views.{view, shares, ticket_in, commits_in, at_history, IsSpare, AreApart, numbers_of}
 
@@ -39,10 +40,11 @@ module _ {M E B : Type 0} (history : M → List E) (seat_of : E → ℕ) where
   committed st m r n = n ≡ (commits_to m, m.1)
 
 module _ {S E B : Type 0} (seat_of : E → ℕ) where
-  -- nothing changed, and the seat learned what the rule says of its numbers
+  -- nothing changed, and the seat learned what the rule says of its numbers and of what it has seen
   pub record Told (m n : Me S (View E B)) : Type 0 where
     pub same : n ≡ m
     pub own : m.0.known.mine ≡ entries_of seat_of m.0.known.number m.0.known.seen
+    pub merged : Every (λ xs. IsPrefix xs m.0.known.seen) m.0.known.merged
     pub spare : IsSpare m.0.known.seats m.0.known.spare
     pub room : length (shares m.0.known) ≤ m.0.known.seats
     pub few : m.0.known.seats < 2 ^ 32

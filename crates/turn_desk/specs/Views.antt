@@ -96,7 +96,7 @@ module _ {E B : Type 0} where
 
   -- the first seat: number 0, with all others to spare
   abbrev pub first_view : ℕ → B → View E B
-  first_view seats base = view Idle record { seats = seats; number = 0; base = Some base; seen = []; mine = []; ended = []; spare = range_with_len 1 (seats - 1) }
+  first_view seats base = view Idle record { seats = seats; number = 0; base = Some base; seen = []; merged = []; mine = []; ended = []; spare = range_with_len 1 (seats - 1) }
 
   -- the two seats that one is split into: what is left of it, and the one with its first spare number
   abbrev pub without_first : Known E B → Known E B
@@ -106,20 +106,20 @@ module _ {E B : Type 0} where
   left v = view v.phase (without_first v.known)
 
   abbrev pub newcomer : Known E B → Known E B
-  newcomer k = record { seats = k.seats; number = first_of k.spare; base = k.base; seen = k.seen; mine = []; ended = []; spare = [] }
+  newcomer k = record { seats = k.seats; number = first_of k.spare; base = k.base; seen = k.seen; merged = []; mine = []; ended = []; spare = [] }
 
   abbrev pub right : View E B → View E B
   right v = view Idle (newcomer v.known)
 
   -- the seat that two are joined into, and what is left of the second one
   abbrev pub joined : Known E B → Known E B → Known E B
-  joined k l = record k { seen = longer k.seen l.seen; ended = k.ended ++ (l.number, l.mine) ∷ l.ended; spare = k.spare ++ l.spare }
+  joined k l = record k { seen = longer k.seen l.seen; merged = k.seen ∷ l.seen ∷ []; ended = k.ended ++ (l.number, l.mine) ∷ l.ended; spare = k.spare ++ l.spare }
 
   abbrev pub both : View E B → View E B → View E B
   both v w = view v.phase (joined v.known w.known)
 
   abbrev pub spent : View E B
-  spent = view Spent record { seats = 0; number = 0; base = None; seen = []; mine = []; ended = []; spare = [] }
+  spent = view Spent record { seats = 0; number = 0; base = None; seen = []; merged = []; mine = []; ended = []; spare = [] }
 
   -- the seat has seen all of a history, and knows its own entries in it
   abbrev pub at_history : (E → ℕ) → List E → Known E B → Known E B

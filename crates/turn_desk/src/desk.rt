@@ -176,6 +176,7 @@ impl<M: Machine> Desk<M> {
     pub fn join(&self, seat: Seat<M>, ended: Seat<M>) -> Seat<M>
         requires desk { (seat.desk ≡ self.now) × (ended.desk ≡ self.now) }
         ensures both { result ≡ joined_with seat ended }
+        ensures behind { IsPrefix seat.seen result.seen × IsPrefix ended.seen result.seen }
         ensures own { HasItsOwn M.seat_of result }
     {
         let Seat {

@@ -38,6 +38,7 @@
 //!   reply is the machine's at that place; one that ends `Err` adds none, and its fault is the machine's at the history
 //!   as it stood;
 //! - after each call the seat's `mine` has just the entries of its number in its `seen`;
+//! - after a join the `seen` of each of the two seats is a beginning of the joined seat's;
 //! - `close` gives back the machine with the base that the seat knows and a history that begins with the seat's `seen`.
 //!   What the seat and those joined into it list is exactly what the history has of their numbers, and no other number
 //!   has an entry.

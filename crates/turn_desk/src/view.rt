@@ -23,6 +23,8 @@ pub struct Known<E, B> {
     /// `None` where the seat was joined into another one, and only there.
     pub base: Option<B>,
     pub seen: LinkedList<E>,
+    /// What the two seats had seen that this one was last made of by a join. It is empty where none was.
+    pub merged: LinkedList<LinkedList<E>>,
     pub mine: LinkedList<E>,
     /// The numbers joined into it, each with its entries.
     pub ended: LinkedList<(u64, LinkedList<E>)>,

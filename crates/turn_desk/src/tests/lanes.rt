@@ -1,6 +1,7 @@
 // Eight lanes, each on a thread of its own.
 ghost use Rattle.std.specs.Prelude.{◌≡◌, ◌+◌, ◌<◌, ◌≤◌, ℕ, [], length, All, MatchOption, slice_index_or};
-ghost use Rattle.turn_desk.specs.Calls.{IsSameSeat};
+ghost use mathlib.Core.List.{IsPrefix};
+ghost use Rattle.turn_desk.specs.Calls.{IsSameSeat, IsWhole, joined_with};
 
 use super::{Counter, count_often, new_counter};
 use crate::{Desk, Seat};
@@ -77,6 +78,8 @@ fn gather(
     requires done { (k : ℕ) (d : _) → k < length lanes.old → MatchOption (slice_index_or lanes.old k d) ⊥ (λ s. (s.desk ≡ desk.now) × (s.ended ≡ []) × (s.spare ≡ [])) }
     ensures kept { (result.desk ≡ desk.now) × (result.seats ≡ seat.seats) }
     ensures all { length result.ended + length result.spare ≡ length lanes.old }
+    ensures seen { IsPrefix seat.seen result.seen }
+    ensures behind { (k : ℕ) (d : _) → k < length lanes.old → MatchOption (slice_index_or lanes.old k d) ⊥ (λ s. IsPrefix s.seen result.seen) }
 {
     let mut seat = seat;
     for i in 0..lanes.len() {
@@ -86,6 +89,16 @@ fn gather(
         seat = desk.join(seat, ended);
     }
     seat
+}
+
+// The last two seats of a desk, joined, and its machine.
+fn last_two(desk: Desk<Counter>, seat: Seat<Counter>, lane: Seat<Counter>) -> Counter
+    requires desk { (seat.desk ≡ desk) × (lane.desk ≡ desk) }
+    requires whole { IsWhole (joined_with seat lane) }
+    ensures { IsPrefix lane.seen result.entries.items }
+{
+    let seat = desk.join(seat, lane);
+    desk.close(seat)
 }
 
 // How many entries eight threads make.

@@ -7,18 +7,18 @@ use Rattle.turn_desk.proofs.Shares.{fewer_apart, length_others}
 use Rattle.turn_desk.proofs.desk.Desk.split.Goals as goal
 
 pub load-requires : goal.load-requires
-load-requires g c = (at_desk _ _ _ _ _ c.seat.view_is c.self.view_is c.requires.desk, omega (arith, c.self.invariant), tells_as _ _ _ _ _ _ _ _ c.seat.invariant.idle)
+load-requires g c = (at_desk _ _ c.seat.inside.token.me.0.known _ _ c.seat.view_is c.self.view_is c.requires.desk, omega (arith, c.self.invariant), tells_as _ _ _ _ _ _ _ _ c.seat.invariant.idle)
 
 pub split_seat-new-requires : goal.split_seat-new-requires
 split_seat-new-requires g c = let same = c.load.ensures.2.same in (
-  c.load.ensures.0 ∙ at_desk _ _ _ _ _ c.seat.view_is c.self.view_is c.requires.desk,
+  c.load.ensures.0 ∙ at_desk _ _ c.seat.inside.token.me.0.known _ _ c.seat.view_is c.self.view_is c.requires.desk,
   omega (arith, c.self.invariant),
   splits_as _ _ _ _ _ _ _ (ap (λ m. m.0.phase) same ∙ c.seat.invariant.idle) (subst (λ m. 0 < length m.0.known.spare) (sym same) (subst (λ k. 0 < length k.spare) (sym c.seat.view_is) c.requires.some_spare)),
 )
 
 pub load-requires-2 : goal.load-requires-2
 load-requires-2 g c = (
-  c.split_seat-new.ensures.3 ∙ (c.load.ensures.0 ∙ at_desk _ _ _ _ _ c.seat.view_is c.self.view_is c.requires.desk),
+  c.split_seat-new.ensures.3 ∙ (c.load.ensures.0 ∙ at_desk _ _ c.seat.inside.token.me.0.known _ _ c.seat.view_is c.self.view_is c.requires.desk),
   omega (arith, c.self.invariant),
   tells_as _ _ _ _ _ _ _ _ (ap (λ m. m.0.phase) c.split_seat-new.ensures.4),
 )

@@ -1,4 +1,5 @@
-use Rattle.std.proofs.Common.{◌≡◌, ℕ, ◌+◌, ◌≤◌, Option, length, get_or}
+use Rattle.std.proofs.Common.{◌≡◌, ℕ, ◌+◌, ◌<◌, ◌≤◌, Option, MatchOption, length, get_or}
+use mathlib.Core.List.{IsPrefix}
 use Rattle.turn_desk.specs.Calls.{SeatFacts}
 use Rattle.turn_desk.specs.declared.tests.Counted.{Counted}
 use Rattle.turn_desk.proofs.tests.lanes.gather.Given as goal
@@ -7,6 +8,8 @@ abbrev pub invariant-loop-i : goal.invariant-loop-i
 invariant-loop-i l = record {
   desk : l.seat.desk ≡ l.fn.seat.desk;
   seats : l.seat.seats ≡ l.fn.seat.seats;
+  seen : IsPrefix l.fn.seat.seen l.seat.seen;
+  behind : (k : ℕ) (d : Option (SeatFacts Counted ℕ)) → k < l.i → MatchOption (get_or l.fn.lanes k d) ⊥ (λ s. IsPrefix s.seen l.seat.seen);
   count : length l.seat.ended + length l.seat.spare ≡ l.i;
   ahead : (k : ℕ) (d : Option (SeatFacts Counted ℕ)) → l.i ≤ k → get_or l.lanes k d ≡ get_or l.fn.lanes k d;
 }

@@ -1,6 +1,7 @@
 -- No reply shows a moment from the year 2100 on.
 use Rattle.std.proofs.Common.{◌≡◌, ◌≤◌, ◌<◌, ◌+◌, ℕ, Bool, true, false, not, ◌&&◌, List, [], ◌∷◌, length, reverse, Option, Some, None, arith}
 use Rattle.std.specs.Prelude.{if◌then◌else◌}
+use Rattle.call_facts.specs.Pairs.{once}
 use Rattle.book_core.specs.Commands.{Outcome, unless, writes, first_refusal, commanded, deployed, put_api_tests, deploy_tests, put_stage_tests}
 use Rattle.api_model.specs.Definition.{Definition}
 use Rattle.book_core.specs.History.{reply, state_of, state_after, is_changing}
@@ -53,7 +54,7 @@ commanded_in_time rows (PutApi api definition) = unless_in_time (first_refusal (
 commanded_in_time rows (Deploy api) = unless_in_time (first_refusal (deploy_tests rows api)) (writes (adds_deployment api) (Deployed (deployed rows api + 1))) tt
 commanded_in_time rows (PutStage api stage number variables) =
     unless_in_time (first_refusal (put_stage_tests rows api stage number variables))
-    (writes (puts_stage (record { api = api; stage = stage; deployment = number; variables = variables })) Done) tt
+    (writes (puts_stage (record { api = api; stage = stage; deployment = number; variables = once variables })) Done) tt
 
 at_in_time : (s : State) (place : ℕ) (event : Event) → s.latest ≤ 4102444799999 → IsInTime (reply_at s place event)
 at_in_time s place (Enter moment word api stage) h = entered_in_time s.rows place (time_of s moment) (stage_row s.rows api stage) (time_within s moment h)

@@ -11,7 +11,8 @@ use Rattle.book_core.specs.History.{state_of, state_after}
 use Rattle.book_core.specs.Views.{command_of, kept_command, definition_after, definition_by, stage_after, stage_by, deployment_after, deployment_by, entered_by, ViewsAreOfTheLastCommands}
 use Rattle.book_core.specs.declared.rows.ApiRow.{ApiRow}
 use Rattle.book_core.specs.declared.rows.StageRow.{StageRow}
-use Rattle.call_facts.specs.declared.facts.Vars.{Vars}
+use Rattle.call_facts.specs.Pairs.{once}
+use Rattle.call_facts.specs.declared.vars.Vars.{Vars}
 use Rattle.book_core.specs.declared.events.Command.{Command}
 use Rattle.book_core.specs.declared.events.Command.TheVariants.{PutApi, Deploy, PutStage}
 use Rattle.book_core.specs.declared.events.Event.{Event}
@@ -180,7 +181,7 @@ definition_of_deploy None false rows name reply' api = refl
 definition_of_deploy None true rows name reply' api = definition_deployed rows.apis name api (bytes_eq name api) refl
 
 definition_of_put_stage : (r : Option Refusal) (kept : Bool) (rows : Rows) (name title : List ℕ) (number : ℕ) (variables : Vars) (api : List ℕ)
-    → let w = puts_stage (record { api = name; stage = title; deployment = number; variables = variables }) in
+    → let w = puts_stage (record { api = name; stage = title; deployment = number; variables = once variables }) in
     definition_in (api_row (put_kept (told_of r w Done).written kept rows) api)
     ≡ definition_after (cond (is_some (told_of r w Done).written && kept) (Some (PutStage name title number variables)) None) api (definition_in (api_row rows api))
 definition_of_put_stage (Some x) kept rows name title number variables api = refl
@@ -212,8 +213,8 @@ stage_command rows (Deploy name) kept api stage =
     stage_of_put_api (first_refusal (deploy_tests rows name)) kept rows (adds_deployment name) (Deploy name) (Deployed (deployed rows name + 1)) api stage refl
 stage_command rows (PutStage name title number variables) kept api stage =
     stage_of_put_api (first_refusal (put_stage_tests rows name title number variables)) kept rows
-    (puts_stage (record { api = name; stage = title; deployment = number; variables = variables })) (PutStage name title number variables) Done api stage
-    (stage_put rows.stages (record { api = name; stage = title; deployment = number; variables = variables }) api stage (bytes_eq name api && bytes_eq title stage) refl)
+    (puts_stage (record { api = name; stage = title; deployment = number; variables = once variables })) (PutStage name title number variables) Done api stage
+    (stage_put rows.stages (record { api = name; stage = title; deployment = number; variables = once variables }) api stage (bytes_eq name api && bytes_eq title stage) refl)
 
 deployment_of_command : (r : Option Refusal) (kept : Bool) (rows : Rows) (w : Written) (command : Command) (reply' : Reply) (api : List ℕ) (number : ℕ)
     → deployment (put_kept (Some w) true rows) api number ≡ deployment_after (Some command) api number (deployed rows api) (definition_in (api_row rows api)) (deployment rows api number)
@@ -234,7 +235,7 @@ deployment_command rows (Deploy name) kept api number =
     (deployment_deployed rows.apis name api number (bytes_eq name api) refl)
 deployment_command rows (PutStage name title count variables) kept api number =
     deployment_of_command (first_refusal (put_stage_tests rows name title count variables)) kept rows
-    (puts_stage (record { api = name; stage = title; deployment = count; variables = variables })) (PutStage name title count variables) Done api number refl
+    (puts_stage (record { api = name; stage = title; deployment = count; variables = once variables })) (PutStage name title count variables) Done api number refl
 
 -- The same of an entry.
 definition_event : (state : State) (event : Event) (kept : Bool) (api : List ℕ)

@@ -1,9 +1,11 @@
 -- The tests of the three commands, in their order, and what each writes.
 use Rattle.std.specs.Prelude.{ℕ, ◌+◌, nat_lt, nat_le, Bool, true, false, not, ◌&&◌, ◌||◌, List, [], ◌∷◌, length, Option, Some, None, is_none, if◌then◌else◌}
-use Rattle.book_core.specs.Names.{is_name, are_variables}
+use Rattle.gw_base.specs.Names.{is_name}
+use Rattle.call_facts.specs.Pairs.{once}
+use Rattle.book_core.specs.Names.{are_variables}
 use Rattle.book_core.specs.Rows.{Rows, Written, puts_definition, adds_deployment, puts_stage, api_row, stage_row, deployment}
 use Rattle.book_core.specs.declared.rows.ApiRow.{ApiRow}
-use Rattle.call_facts.specs.declared.facts.Vars.{Vars}
+use Rattle.call_facts.specs.declared.vars.Vars.{Vars}
 use Rattle.book_core.specs.declared.events.Command.{Command}
 use Rattle.book_core.specs.declared.events.Command.TheVariants.{PutApi, Deploy, PutStage}
 use Rattle.book_core.specs.declared.replies.Refusal.{Refusal}
@@ -75,13 +77,13 @@ put_stage_tests rows api stage number variables =
     ∷ (nat_lt most_variables (length variables.pairs) || is_none (stage_row rows api stage) && nat_le most_stages (length rows.stages), Full)
     ∷ []
 
--- what a command comes to
+-- what a command comes to; a stage keeps each variable once
 abbrev pub commanded : Rows → Command → Outcome
 commanded rows (PutApi api definition) = unless_refused (put_api_tests rows api) (writes (puts_definition api definition) Done)
 commanded rows (Deploy api) = unless_refused (deploy_tests rows api) (writes (adds_deployment api) (Deployed (deployed rows api + 1)))
 commanded rows (PutStage api stage number variables) =
     unless_refused (put_stage_tests rows api stage number variables)
-    (writes (puts_stage (record { api = api; stage = stage; deployment = number; variables = variables })) Done)
+    (writes (puts_stage (record { api = api; stage = stage; deployment = number; variables = once variables })) Done)
 
 -- making this reply may take memory
 abbrev pub takes_memory : Reply → Bool

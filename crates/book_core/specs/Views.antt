@@ -3,6 +3,7 @@ use Rattle.std.specs.Prelude.{◌≡◌, ℕ, ◌+◌, ◌==◌, Bool, ◌&&◌,
 use Rattle.std.specs.Option.{option_map}
 use Rattle.std.specs.Str.{bytes_eq}
 use Rattle.api_model.specs.Definition.{Definition}
+use Rattle.call_facts.specs.Pairs.{once}
 use Rattle.book_core.specs.Rows.{Rows, api_row, stage_row, deployment}
 use Rattle.book_core.specs.Commands.{deployed}
 use Rattle.book_core.specs.Machine.{State, opened, time_of, viewed, written_by}
@@ -37,10 +38,10 @@ definition_by opening [] api = option_map (λ (row : ApiRow). row.definition) (a
 definition_by opening (newest ∷ older) api =
     definition_after (kept_command (state_of (opened opening) older) newest) api (definition_by opening older api)
 
--- the deployment to which a stage points and its variables after a command, where they were these before
+-- the deployment to which a stage points and its variables, each once, after a command, where they were these before
 abbrev pub stage_after : Option Command → List ℕ → List ℕ → Option StageRow → Option StageRow
 stage_after (Some (PutStage name title number variables)) api stage before =
-    if bytes_eq name api && bytes_eq title stage then Some (record { api = api; stage = stage; deployment = number; variables = variables }) else before
+    if bytes_eq name api && bytes_eq title stage then Some (record { api = api; stage = stage; deployment = number; variables = once variables }) else before
 stage_after command api stage before = before
 
 -- the stage after some entries, the newest first: as the last PutStage left it, else as it opened

@@ -6,13 +6,13 @@ ghost use Rattle.book_core.specs.Machine.{put_kept};
 ghost use Rattle.book_core.specs.Tables.{rows_of};
 
 use crate::events::Command;
-use crate::names::{are_variables, is_name};
+use crate::names::are_variables;
 use crate::replies::{Refusal, Reply};
 use crate::rows::StageRow;
 use crate::tables::Tables;
 use api_model::Api;
 use call_facts::Vars;
-use gw_base::{Memory, Shared, Text};
+use gw_base::{Memory, Shared, Text, is_name};
 use std::alloc::Global;
 
 /// The most APIs, the most deployments of one, and the most stages.
@@ -125,7 +125,7 @@ fn put_stage(
         api: api.copy(alloc)?,
         stage: stage.copy(alloc)?,
         deployment,
-        variables: variables.share()?,
+        variables: Vars::once(alloc, variables)?,
     };
     tables.put_stage(row)?;
     Ok(Reply::Done)

@@ -38,10 +38,8 @@ mod tables;
 
 pub use api_model::Api;
 pub use book::{Book, StepFault};
-pub use call_facts::{Kind, Vars};
 pub use events::{Command, Entry, Event, Limits};
 pub use laws::views_are_of_the_last_commands;
-pub use names::is_name;
 pub use replies::{Refusal, Reply, View};
 pub use rows::{ApiRow, StageRow};
 pub use tables::Tables;

@@ -1,31 +1,8 @@
 // What the gateway knows of a call.
 use crate::kind::Kind;
-use gw_base::{Name, Seq, Shared, Text};
-
-/// The variables of a stage, names and values in the order in which they were handed in. Of a repeated name the last
-/// value counts.
-#[derive(Drop)]
-pub struct Vars {
-    pub pairs: Seq<(Text, Text)>,
-}
-
-/// What the policy of an authorizer says of the caller.
-#[derive(Drop)]
-pub struct Claims {
-    /// The principal.
-    pub principal: Text,
-    /// The names and texts of the policy's context, in their order.
-    pub context: Seq<(Text, Text)>,
-}
-
-/// Why the gateway answers in place of the backend.
-#[derive(Drop)]
-pub struct Refusal {
-    /// The kind of the gateway's answer.
-    pub kind: Kind,
-    /// The message.
-    pub message: Text,
-}
+use crate::vars::Vars;
+use gw_base::{Name, Shared, Text};
+use policy_core::Policy;
 
 /// What the gateway knows of a call.
 pub struct CallFacts {
@@ -47,10 +24,10 @@ pub struct CallFacts {
     pub resource: Text,
     /// The key that was admitted.
     pub key: Option<Name>,
-    /// What the authorizer's policy says.
-    pub claims: Option<Claims>,
-    /// Why the gateway answers itself.
-    pub refusal: Option<Refusal>,
+    /// The policy of the authorizer.
+    pub policy: Option<Shared<Policy>>,
+    /// Where the gateway answers itself, the kind of its answer and the message.
+    pub error: Option<(Kind, Text)>,
 }
 
 // Written by hand, so that a function that lets a value go makes one call.
@@ -66,8 +43,8 @@ impl Drop for CallFacts {
             variables: _,
             resource: _,
             key: _,
-            claims: _,
-            refusal: _,
+            policy: _,
+            error: _,
         } = self;
     }
 }

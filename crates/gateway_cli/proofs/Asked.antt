@@ -4,12 +4,9 @@ use Rattle.std.proofs.lemmas.Grind.{common_steps}
 use borrow.Author.Tests.{lt-ltb}
 use Rattle.std.specs.Str.{bytes_eq}
 use Rattle.std.proofs.lemmas.Slice.Eq.{bytes_eq-Decides}
-use Rattle.api_model.specs.Definition.{document_parts, read_by}
-use Rattle.api_parts.specs.Reading.{Read, here}
-use Rattle.gateway_cli.specs.Check.{check_of, checked, checked_file, checked_within, reported}
+use Rattle.gateway_cli.specs.Check.{check_of, checked_file, checked_within, document_limit}
 use Rattle.gateway_cli.specs.Files.{Files, content_of, Holds, within}
-use Rattle.play_script.specs.Records.{body_limit}
-use Rattle.gateway_cli.specs.Render.{judged, rendered, rendered_files, render_of, template_limit}
+use Rattle.gateway_cli.specs.Render.{judged, rendered, rendered_files, render_of, body_limit, template_limit}
 use Rattle.gateway_cli.specs.Top.{OfTold}
 use Rattle.gateway_cli.proofs.Inputs.{longer}
 
@@ -81,23 +78,20 @@ of_one (Some files) t b template first second same ht hf hs = (
       ∙ sym (ap (λ o. rendered_files o o) ht) ∙ ap (render_of files t) same,
 )
 
--- a document over its limit is not read
-document_at : (content : List ℕ) (over : Bool) → nat_lt 1048576 (length content) ≡ over → checked_within (within 1048576 content) ≡ checked content
-unfolding within document_parts
-document_at content true h =
-    let more : nat_le (length content) 1048576 ≡ false = grind (arith, common_steps) in
-    rw h (rw more refl)
-document_at content false h = rw h refl
+-- the limit of a document
+document_at : (content : List ℕ) → checked_within (within 1048576 content) ≡ checked_file (Some content)
+unfolding document_limit
+document_at content = refl
 
 pub of_document : (told : Option Files) (name content : List ℕ) (read : Option (List ℕ)) → Holds told name content → read ≡ within 1048576 content
     → OfTold told (λ files. checked_within read ≡ check_of files name)
 of_document None name content read held is = (
   (name, content) ∷ [],
   tt,
-  ap checked_within is ∙ document_at content (nat_lt 1048576 (length content)) refl ∙ sym (ap checked_file (found_first name content [])),
+  ap checked_within is ∙ document_at content ∙ sym (ap checked_file (found_first name content [])),
 )
 of_document (Some files) name content read held is = (
   files,
   refl,
-  ap checked_within is ∙ document_at content (nat_lt 1048576 (length content)) refl ∙ sym (ap checked_file held),
+  ap checked_within is ∙ document_at content ∙ sym (ap checked_file held),
 )

@@ -5,17 +5,12 @@ use Rattle.std.specs.List.{concat}
 use Rattle.api_model.specs.Definition.{document, stated}
 use Rattle.api_model.specs.Document.{Parts}
 use Rattle.api_parts.specs.Printed.{printed}
-use Rattle.api_parts.specs.Reading.{Read, here}
-use Rattle.api_parts.specs.declared.fault.ApiCause.TheVariants.{TooLong}
+use Rattle.api_parts.specs.Reading.{Read}
 use Rattle.api_parts.specs.declared.fault.ApiFault.{ApiFault}
-use Rattle.gateway_cli.specs.Files.{Files, content_of}
-use Rattle.play_script.specs.Play.{Output}
-use Rattle.play_script.specs.Printed.{line_feed, coded}
-
--- a text as a field of a line; the empty text is `~`
-abbrev pub field : List ℕ → List ℕ
-field [] = codes "~"
-field (b ∷ bs) = coded (b ∷ bs)
+use Rattle.gateway_cli.specs.Files.{Files, content_of, within}
+use Rattle.play_script.specs.Play.{Output, too_long}
+use Rattle.play_script.specs.Printed.{line_feed}
+use Rattle.record_fields.specs.Writing.{coded, field}
 
 -- the line of a document that states an API: how many resources, methods and models it has
 unfoldable pub accepted : Parts → Output
@@ -39,13 +34,17 @@ checked bytes = reported (stated (document bytes))
 
 -- the same of bytes that none stand for where they are more than the limit
 abbrev pub checked_within : Option (List ℕ) → Output
-checked_within None = refused (here TooLong)
+checked_within None = too_long
 checked_within (Some bytes) = checked bytes
+
+-- the most bytes of the document's file
+unfoldable pub document_limit : ℕ
+document_limit = 1048576
 
 -- the file must be there
 abbrev pub checked_file : Option (List ℕ) → Output
 checked_file None = record { text = []; status = 3 }
-checked_file (Some bytes) = checked bytes
+checked_file (Some bytes) = checked_within (within document_limit bytes)
 
 -- the file of this name
 abbrev pub check_of : Files → List ℕ → Output

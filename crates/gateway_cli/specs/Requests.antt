@@ -1,7 +1,7 @@
 -- What a template of the command `render` sees.
 use Rattle.std.specs.Prelude.{ℕ, false, List, [], codes, None}
 use Rattle.call_facts.specs.declared.facts.CallFacts.{CallFacts}
-use Rattle.call_facts.specs.declared.facts.Vars.{Vars}
+use Rattle.call_facts.specs.declared.vars.Vars.{Vars}
 use Rattle.call_facts.specs.declared.request.Request.{Request}
 
 abbrev pub no_variables : Vars
@@ -23,6 +23,6 @@ render_facts = record {
   variables = no_variables;
   resource = [];
   key = None;
-  claims = None;
-  refusal = None;
+  policy = None;
+  error = None;
 }

@@ -35,10 +35,17 @@ pub record Count : Type 0 where
 abbrev pub Names : Option (List ℕ) → Option (List ℕ) → (List ℕ → Type 0) → Count → List ℕ → Type 0
 Names old new Front count name = Rose count.before count.now × SaysFault old new Front name
 
--- the count of the input, that of the output or that of the files rose, and the line names it
+-- a count stands as before
+abbrev pub Stands : Count → Type 0
+Stands count = count.now ≡ count.before
+
+-- The line names the first cause, in the order in which they come: the count of the input, that of the files or that of the output rose,
+-- and the counts before it stand.
 abbrev pub Faulted : Option (List ℕ) → Option (List ℕ) → (List ℕ → Type 0) → Count → Count → Count → Type 0
-Faulted old new Front input output files =
-    Names old new Front input (codes "input") ⊎ (Names old new Front output (codes "output") ⊎ Names old new Front files (codes "file"))
+Faulted old new Front input files output =
+    Names old new Front input (codes "input")
+    ⊎ ((Stands input × Names old new Front files (codes "file"))
+    ⊎ (Stands input × Stands files × Names old new Front output (codes "output")))
 
 -- why the program stops where a write was refused
 abbrev pub stopped_by : WriteStop → Stopped

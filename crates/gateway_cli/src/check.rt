@@ -1,29 +1,18 @@
 // What the command `check` prints of its file.
-ghost use Rattle.std.specs.Prelude.{◌≡◌, ◌⊎◌, [], true, Ok, Err, IfOk};
+ghost use Rattle.std.specs.Prelude.{◌≡◌, true, Ok, Err, IfOk};
 ghost use Rattle.api_model.specs.Definition.{document as document_of, parts_of, stated};
-ghost use Rattle.api_parts.specs.Reading.{here};
-ghost use Rattle.gateway_cli.specs.Check.{accepted as accepted_of, checked as checked_of, checked_within as checked_within_of, field as field_of, refused as refused_of};
+ghost use Rattle.gateway_cli.specs.Check.{accepted as accepted_of, checked as checked_of, checked_within as checked_within_of, refused as refused_of};
 ghost use Rattle.play_script.specs.Play.{is_command_status};
 
-use crate::render::Shown;
+use crate::shown::{Shown, too_long};
 use api_model::{Api, ApiCause, ApiFault};
-use gw_base::{Bytes, Memory, Text};
-use play_script::{coded, joined};
+use gw_base::{Bytes, Memory};
+use play_script::joined;
+use record_fields::{coded, field};
 use std::alloc::Global;
 
-// A text as a field of a line.
-fn field(alloc: Global, text: &str) -> Result<Text, Memory>
-    ensures { IfOk result (λ field. field ≡ field_of text.now) }
-{
-    if text.is_empty() {
-        Ok(Text::of(String::from_str(alloc, "~")?))
-    } else {
-        coded(alloc, text.as_bytes())
-    }
-}
-
 #[tactic(auto, unfolding(crate::specs::Check::accepted))]
-fn accepted(alloc: Global, api: &Api) -> Result<Shown, Memory>
+fn accept(alloc: Global, api: &Api) -> Result<Shown, Memory>
     ensures output { IfOk result (λ shown. accepted_of (parts_of api.now) ≡ record { text = shown.text; status = shown.status }) }
     ensures known { IfOk result (λ shown. is_command_status shown.status ≡ true) }
 {
@@ -48,13 +37,13 @@ fn accepted(alloc: Global, api: &Api) -> Result<Shown, Memory>
 }
 
 #[tactic(auto, unfolding(crate::specs::Check::refused))]
-fn refused(alloc: Global, fault: &ApiFault) -> Result<Shown, Memory>
+fn refuse(alloc: Global, fault: &ApiFault) -> Result<Shown, Memory>
     ensures output { IfOk result (λ shown. refused_of fault.now ≡ record { text = shown.text; status = shown.status }) }
     ensures known { IfOk result (λ shown. is_command_status shown.status ≡ true) }
 {
     let cause = fault.cause.to_string(alloc)?;
     let cause = coded(alloc, cause.as_str().as_bytes())?;
-    let place = field(alloc, fault.place.as_str())?;
+    let place = field(alloc, fault.place.as_str().as_bytes())?;
     Ok(Shown {
         text: joined(
             alloc,
@@ -64,42 +53,30 @@ fn refused(alloc: Global, fault: &ApiFault) -> Result<Shown, Memory>
     })
 }
 
-// A document over its limit.
-fn too_long(alloc: Global) -> Result<Shown, Memory>
-    ensures output { IfOk result (λ shown. refused_of (here ApiCause.TooLong) ≡ record { text = shown.text; status = shown.status }) }
-    ensures known { IfOk result (λ shown. is_command_status shown.status ≡ true) }
-{
-    let fault = ApiFault {
-        place: Text::of(String::new(alloc)),
-        cause: ApiCause::TooLong,
-    };
-    refused(alloc, &fault)
-}
-
 // A document within its limit.
-fn checked(alloc: Global, document: &[u8]) -> Result<Shown, Memory>
+fn check(alloc: Global, document: &[u8]) -> Result<Shown, Memory>
     ensures output { IfOk result (λ shown. checked_of document.now ≡ record { text = shown.text; status = shown.status }) }
     ensures known { IfOk result (λ shown. is_command_status shown.status ≡ true) }
 {
     match Api::read(alloc, document) {
-        Ok(api) => accepted(alloc, &api),
+        Ok(api) => accept(alloc, &api),
         Err(
             ApiFault {
                 cause: ApiCause::Memory,
                 ..
             },
         ) => Err(Memory),
-        Err(fault) => refused(alloc, &fault),
+        Err(fault) => refuse(alloc, &fault),
     }
 }
 
 /// What is printed of a document's bytes, where none stand for bytes beyond the limit.
-pub fn checked_within(alloc: Global, document: &Option<Bytes>) -> Result<Shown, Memory>
+pub fn check_within(alloc: Global, document: &Option<Bytes>) -> Result<Shown, Memory>
     ensures output { IfOk result (λ shown. checked_within_of document.now ≡ record { text = shown.text; status = shown.status }) }
     ensures known { IfOk result (λ shown. is_command_status shown.status ≡ true) }
 {
     match document {
-        Some(document) => checked(alloc, document.as_slice()),
+        Some(document) => check(alloc, document.as_slice()),
         None => too_long(alloc),
     }
 }

@@ -1,5 +1,5 @@
 // Asking for the files of `render` and of `check`.
-ghost use Rattle.std.specs.Prelude.{◌≡◌, ◌≤◌, ℕ, List, Some, IfOk, IsErrOf, Err, ◌≢◌};
+ghost use Rattle.std.specs.Prelude.{◌≡◌, ℕ, List, Some, IfOk, OnOk, IsErrOf, Err, ◌≢◌};
 ghost use Rattle.gw_base.specs.Outside.{Rose};
 ghost use Rattle.gateway_cli.specs.Check.{check_of, checked_within};
 ghost use Rattle.gateway_cli.specs.Files.{Holds, within};
@@ -31,7 +31,7 @@ fn file_in<O: Outside>(
     ensures fault { IsErrOf result Stopped.File → Rose (O.faults outside.old) (O.faults outside.new) }
     ensures input { result ≢ Err Stopped.Input }
     ensures output { result ≢ Err Stopped.Output }
-    ensures later { O.faults outside.old ≤ O.faults outside.new }
+    ensures kept { OnOk result (O.faults outside.new ≡ O.faults outside.old) }
     ensures files { O.files outside.new ≡ O.files outside.old }
 {
     match outside.file(alloc, name, limit) {
@@ -42,7 +42,7 @@ fn file_in<O: Outside>(
     }
 }
 
-fn copied(alloc: Global, bytes: &Option<Bytes>) -> Result<Option<Bytes>, Memory>
+fn copy(alloc: Global, bytes: &Option<Bytes>) -> Result<Option<Bytes>, Memory>
     ensures { IfOk result (λ other. other ≡ bytes.now) }
 {
     match bytes {
@@ -61,12 +61,13 @@ pub fn files_in<O: Outside>(
 ) -> Result<(Option<Bytes>, Option<Bytes>), Stopped>
     ensures read { IfOk result (λ read. OfTold (O.files outside.old) (λ files. judged read.0 read.1 ≡ render_of files template.now body.now)) }
     ensures fault { IsErrOf result Stopped.File → Rose (O.faults outside.old) (O.faults outside.new) }
+    ensures kept { OnOk result (O.faults outside.new ≡ O.faults outside.old) }
     ensures input { result ≢ Err Stopped.Input }
     ensures output { result ≢ Err Stopped.Output }
 {
     let first = file_in(alloc, outside, template, TEMPLATE_LIMIT)?;
     if template == body {
-        let second = copied(alloc, &first)?;
+        let second = copy(alloc, &first)?;
         return Ok((first, second));
     }
     let second = file_in(alloc, outside, body, BODY_LIMIT)?;
@@ -81,6 +82,7 @@ pub fn document_in<O: Outside>(
 ) -> Result<Option<Bytes>, Stopped>
     ensures read { IfOk result (λ read. OfTold (O.files outside.old) (λ files. checked_within read ≡ check_of files name.now)) }
     ensures fault { IsErrOf result Stopped.File → Rose (O.faults outside.old) (O.faults outside.new) }
+    ensures kept { OnOk result (O.faults outside.new ≡ O.faults outside.old) }
     ensures input { result ≢ Err Stopped.Input }
     ensures output { result ≢ Err Stopped.Output }
 {

@@ -39,6 +39,7 @@ mod render;
 mod requests;
 mod say;
 mod shelf;
+mod shown;
 mod stopped;
 mod words;
 
@@ -47,18 +48,3 @@ pub use outside::Outside;
 pub use play_script::play_within;
 pub use program::run;
 pub use shelf::MemOutside;
-
-#[cfg(test)]
-mod call_tests;
-#[cfg(test)]
-mod case_tests;
-#[cfg(test)]
-mod check_tests;
-#[cfg(test)]
-mod render_tests;
-#[cfg(test)]
-mod roots_tests;
-#[cfg(test)]
-mod template_tests;
-#[cfg(test)]
-mod tests;

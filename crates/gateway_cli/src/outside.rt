@@ -1,5 +1,5 @@
 // The files that a command reads.
-ghost use Rattle.std.specs.Prelude.{◌≡◌, ◌≤◌, ◌<◌, ℕ, List, Option, Some, length, IfOk, IfSome, IsSomeAnd, IsErrOf};
+ghost use Rattle.std.specs.Prelude.{◌≡◌, ◌≢◌, ◌≤◌, ◌<◌, Err, ℕ, List, Option, Some, length, IfOk, IfSome, IsSomeAnd, IsErrOf};
 ghost use Rattle.gw_base.specs.Outside.{Rose};
 ghost use Rattle.gateway_cli.specs.Files.{content_of};
 
@@ -23,5 +23,8 @@ pub trait Outside {
         ensures too_long { IsErrOf result ReadAll.TooLong → IfSome (files self.old) (λ told. IsSomeAnd (content_of name.now told) (λ bytes. limit < length bytes)) }
         ensures fault { IsErrOf result ReadAll.Fault → Rose (faults self.old) (faults self.new) }
         ensures later { faults self.old ≤ faults self.new }
+
+        // The count rises in no other case.
+        ensures kept { result ≢ Err ReadAll.Fault → faults self.new ≡ faults self.old }
         ensures files { files self.new ≡ files self.old };
 }

@@ -10,10 +10,10 @@ ghost use Rattle.play_script.specs.Play.{Played, PlayedFront, SaysFront, is_comm
 ghost use Rattle.gateway_cli.specs.Render.{render_of};
 ghost use Rattle.gateway_cli.specs.Top.{OfTold, Answered, Says, Faulted};
 
-use crate::check::checked_within;
+use crate::check::check_within;
 use crate::files::{document_in, files_in};
 use crate::outside::Outside;
-use crate::render::judged;
+use crate::render::judge;
 use crate::say::{say, say_fault, stop_of};
 use crate::stopped::Stopped;
 use crate::words::{check_name, is_play, render_names};
@@ -67,7 +67,7 @@ fn play<I: Source, W: Sink>(alloc: Global, input: &mut I, output: &mut W) -> Res
     ensures read { IfOk result (λ status. status ≡ 0 → IsAtEnd (I.left input.new)) }
     ensures input { IsErrOf result Stopped.Input → Rose (I.faults input.old) (I.faults input.new) }
     ensures file { result ≢ Err Stopped.File }
-    ensures output { IsErrOf result Stopped.Output → Rose (W.faults output.old) (W.faults output.new) }
+    ensures output { IsErrOf result Stopped.Output → Rose (W.faults output.old) (W.faults output.new) × (I.faults input.new ≡ I.faults input.old) }
 {
     match read_all(alloc, input, SCRIPT_LIMIT) {
         Ok(script) => play_script(alloc, &script, output),
@@ -90,10 +90,10 @@ fn render<W: Sink, O: Outside>(
     ensures known { IfOk result (λ status. is_command_status status ≡ true) }
     ensures input { result ≢ Err Stopped.Input }
     ensures file { IsErrOf result Stopped.File → Rose (O.faults outside.old) (O.faults outside.new) }
-    ensures output { IsErrOf result Stopped.Output → Rose (W.faults output.old) (W.faults output.new) }
+    ensures output { IsErrOf result Stopped.Output → Rose (W.faults output.old) (W.faults output.new) × (O.faults outside.new ≡ O.faults outside.old) }
 {
     let (template, body) = files_in(alloc, outside, template, body)?;
-    let shown = judged(alloc, &template, &body)?;
+    let shown = judge(alloc, &template, &body)?;
     say(output, shown.text.as_str().as_bytes(), shown.status)
 }
 
@@ -109,10 +109,10 @@ fn check<W: Sink, O: Outside>(
     ensures known { IfOk result (λ status. is_command_status status ≡ true) }
     ensures input { result ≢ Err Stopped.Input }
     ensures file { IsErrOf result Stopped.File → Rose (O.faults outside.old) (O.faults outside.new) }
-    ensures output { IsErrOf result Stopped.Output → Rose (W.faults output.old) (W.faults output.new) }
+    ensures output { IsErrOf result Stopped.Output → Rose (W.faults output.old) (W.faults output.new) × (O.faults outside.new ≡ O.faults outside.old) }
 {
     let document = document_in(alloc, outside, name)?;
-    let shown = checked_within(alloc, &document)?;
+    let shown = check_within(alloc, &document)?;
     say(output, shown.text.as_str().as_bytes(), shown.status)
 }
 
@@ -140,7 +140,7 @@ fn over_files<W: Sink, O: Outside>(
     ensures known { IfOk result (λ status. MatchBool (is_over_files words.now) (is_command_status status ≡ true) (status ≡ 2)) }
     ensures input { result ≢ Err Stopped.Input }
     ensures file { IsErrOf result Stopped.File → Rose (O.faults outside.old) (O.faults outside.new) }
-    ensures output { IsErrOf result Stopped.Output → Rose (W.faults output.old) (W.faults output.new) }
+    ensures output { IsErrOf result Stopped.Output → Rose (W.faults output.old) (W.faults output.new) × (O.faults outside.new ≡ O.faults outside.old) }
 {
     if let Some((template, body)) = render_names(words) {
         return render(alloc, template, body, output, outside);
@@ -167,8 +167,8 @@ fn respond<I: Source, W: Sink, O: Outside>(
     ensures read { IfOk result (λ status. status ≡ 0 → is_play_of words.now ≡ true → IsAtEnd (I.left input.new)) }
     ensures unread { is_play_of words.now ≡ false → I.left input.new ≡ I.left input.old }
     ensures input { IsErrOf result Stopped.Input → Rose (I.faults input.old) (I.faults input.new) }
-    ensures file { IsErrOf result Stopped.File → Rose (O.faults outside.old) (O.faults outside.new) }
-    ensures output { IsErrOf result Stopped.Output → Rose (W.faults output.old) (W.faults output.new) }
+    ensures file { IsErrOf result Stopped.File → Rose (O.faults outside.old) (O.faults outside.new) × (I.faults input.new ≡ I.faults input.old) }
+    ensures output { IsErrOf result Stopped.Output → Rose (W.faults output.old) (W.faults output.new) × (I.faults input.new ≡ I.faults input.old) × (O.faults outside.new ≡ O.faults outside.old) }
 {
     if is_play(words) {
         return play(alloc, input, output);
@@ -194,12 +194,13 @@ pub fn run<I: Source, W: Sink, O: Outside>(
     ensures memory { result ≡ 5 → OfTold (I.left input.old) (λ script. OfTold (O.files outside.old) (λ files.
         SaysFront (W.written output.old) (W.written output.new) (OutcomeFront words.now script files))) }
 
-    // A fault comes only where a count rose in this call. A front is written, and then a front of the one line that names the count.
+    // A fault comes only where a count rose in this call: of the input, the files and the output, the first in this order is
+    // the cause. A front is written, and then a front of the one line that names it, also where that line's own write fails.
     ensures fault { result ≡ 3 → OfTold (I.left input.old) (λ script. OfTold (O.files outside.old) (λ files.
         Faulted (W.written output.old) (W.written output.new) (OutcomeFront words.now script files)
         (record { before = I.faults input.old; now = I.faults input.new })
-        (record { before = W.faults output.old; now = W.faults output.new })
-        (record { before = O.faults outside.old; now = O.faults outside.new }))) }
+        (record { before = O.faults outside.old; now = O.faults outside.new })
+        (record { before = W.faults output.old; now = W.faults output.new }))) }
 
     // Words of no command, and no others, are told so.
     ensures usage { result ≡ 2 → is_command words.now ≡ false }

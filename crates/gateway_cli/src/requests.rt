@@ -52,7 +52,7 @@ pub fn render_facts(alloc: Global) -> Result<CallFacts, Memory>
         variables: no_variables(alloc)?,
         resource: Text::of(String::new(alloc)),
         key: None,
-        claims: None,
-        refusal: None,
+        policy: None,
+        error: None,
     })
 }

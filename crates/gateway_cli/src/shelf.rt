@@ -1,5 +1,5 @@
 // Files in memory.
-ghost use Rattle.std.specs.Prelude.{◌≡◌, ◌≤◌, ◌<◌, ◌↔◌, Some, None, length, true, IfOk, IsSomeAnd, IsErrOf, if◌then◌else◌};
+ghost use Rattle.std.specs.Prelude.{◌≡◌, ◌≢◌, ◌≤◌, ◌<◌, ◌↔◌, Err, Some, None, length, true, IfOk, IsSomeAnd, IsErrOf, if◌then◌else◌};
 ghost use Rattle.std.specs.Option.{option_copied};
 ghost use Rattle.gw_base.specs.Outside.{Rose};
 ghost use Rattle.gw_base.specs.Feed.{is_listed as is_listed_in};
@@ -72,6 +72,7 @@ impl Outside for MemOutside {
         ensures too_long { IsErrOf result ReadAll.TooLong → IsSomeAnd (content_of_in name.now self.old.files) (λ bytes. limit < length bytes) }
         ensures fault { IsErrOf result ReadAll.Fault → Rose self.old.faults self.new.faults }
         ensures later { self.old.faults ≤ self.new.faults }
+        ensures kept { result ≢ Err ReadAll.Fault → self.new.faults ≡ self.old.faults }
         ensures files { Some self.new.files ≡ Some self.old.files }
 
         // The calls whose numbers are listed fail, and those for names that no file has, and no others.

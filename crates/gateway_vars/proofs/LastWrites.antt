@@ -8,7 +8,7 @@ use Rattle.vtl_eval.specs.Roots.{Kept, same_path, put_path, kept_after}
 use Rattle.vtl_values.specs.Printed.{printed}
 use Rattle.vtl_values.specs.Val.{Val}
 use Rattle.gateway_vars.specs.Overriding.{put_pair, nothing, changed, changed_by, after_write, overridden, wrote, put_over, LastWritesCount}
-use Rattle.gateway_vars.specs.Pairs.{Pairs}
+use Rattle.call_facts.specs.Pairs.{Pairs}
 use Rattle.gateway_vars.specs.Writing.{named, bare, request_part, response_part, part_below, group_of, slot_of, kept_name, path_at}
 use Rattle.gateway_vars.specs.declared.changes.Overrides.{Overrides}
 use Rattle.gateway_vars.specs.declared.slots.Part.{Part}

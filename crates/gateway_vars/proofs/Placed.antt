@@ -3,7 +3,7 @@ use Rattle.std.proofs.Common.{◌≡◌, ℕ, suc, ◌+◌, ◌<◌, ◌≤◌, 
 use Rattle.std.specs.Prelude.{if◌then◌else◌, bytes_eq}
 use Rattle.gateway_vars.specs.Changes.{place_of}
 use Rattle.gateway_vars.specs.Overriding.{put_pair}
-use Rattle.gateway_vars.specs.Pairs.{Pairs}
+use Rattle.call_facts.specs.Pairs.{Pairs}
 
 set_at : (ps : Pairs) (x t : List ℕ) → place_of ps x < length ps → slice_set ps (place_of ps x) (x, t) ≡ put_pair ps x t
 set_at [] x t = λ h. absurd (omega (arith, h))

@@ -1,7 +1,7 @@
 -- The place of a name among pairs.
 use Rattle.std.specs.Prelude.{ℕ, ◌+◌, List, [], ◌∷◌, if◌then◌else◌}
 use Rattle.std.specs.Str.{bytes_eq}
-use Rattle.gateway_vars.specs.Pairs.{Pairs}
+use Rattle.call_facts.specs.Pairs.{Pairs}
 
 -- the place of the first pair of this name, or their number
 abbrev pub place_of : Pairs → List ℕ → ℕ

@@ -1,11 +1,11 @@
 -- The codings of $util.
 use Rattle.std.specs.Prelude.{List, ℕ, Option, Some, None, Result, Ok, Err, if◌then◌else◌}
 use Rattle.std.specs.Str.{is_utf8}
-use Rattle.std.specs.Str.Lossy.{utf8_lossy}
 use Rattle.base64.specs.Engines.{standard}
 use Rattle.base64.specs.GeneralPurpose.{encode_of, decode_of}
 use Rattle.base64.specs.declared.decode.DecodeError.{DecodeError}
 use Rattle.form_urlencoded.specs.Form as form
+use Rattle.call_facts.specs.Target.{form_decoded}
 
 -- application/x-www-form-urlencoded (URL Standard, section 5.2)
 abbrev pub url_encoded : List ℕ → List ℕ
@@ -13,7 +13,7 @@ url_encoded text = form.byte_serialize text
 
 -- the same read (section 5.1); bytes that are no UTF-8 become U+FFFD
 abbrev pub url_decoded : List ℕ → List ℕ
-url_decoded text = utf8_lossy (form.decode text)
+url_decoded text = form_decoded text
 
 -- base64 (RFC 4648, section 4), with padding
 abbrev pub base64_encoded : List ℕ → List ℕ

@@ -9,7 +9,8 @@ use Rattle.vtl_values.specs.Kinds.{text_in}
 use Rattle.vtl_values.specs.Making.{mapped}
 use Rattle.vtl_values.specs.Val.{Val, null, text}
 use Rattle.gateway_vars.specs.Documents.{json_at, value_at, no_text}
-use Rattle.gateway_vars.specs.Pairs.{Pairs, first_value, header_value, lower}
+use Rattle.call_facts.specs.Pairs.{Pairs, first_value, header_value}
+use Rattle.gw_base.specs.Names.{lower}
 use Rattle.gateway_vars.specs.Values.{text_or_null, only}
 
 -- the parameters of a request: of its path, of its query and of its header

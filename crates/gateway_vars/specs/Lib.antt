@@ -10,10 +10,6 @@ pub mod Read
 pub mod Parts
 -- values of texts
 pub mod Values
--- names and values
-pub mod Pairs
--- the parts of a request's target
-pub mod Target
 -- $input
 pub mod Input
 -- the program's parameters

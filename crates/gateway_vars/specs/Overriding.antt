@@ -4,7 +4,7 @@ use Rattle.std.specs.Str.{bytes_eq}
 use Rattle.vtl_eval.specs.Roots.{Kept, kept_after}
 use Rattle.vtl_values.specs.Printed.{printed}
 use Rattle.vtl_values.specs.Val.{Val}
-use Rattle.gateway_vars.specs.Pairs.{Pairs}
+use Rattle.call_facts.specs.Pairs.{Pairs}
 use Rattle.gateway_vars.specs.Writing.{slot_of, kept_slot, kept_at}
 use Rattle.gateway_vars.specs.declared.changes.Overrides.{Overrides}
 use Rattle.gateway_vars.specs.declared.slots.Part.{Part}

@@ -2,7 +2,7 @@
 use Rattle.std.specs.Prelude.{ℕ, ◌==◌, List, [], ◌∷◌, length, Option, Some, None, if◌then◌else◌, codes}
 use Rattle.std.specs.Option.{option_map}
 use Rattle.std.specs.Str.{bytes_eq}
-use Rattle.gateway_vars.specs.Pairs.{lower}
+use Rattle.gw_base.specs.Names.{lower}
 use Rattle.gateway_vars.specs.Values.{only}
 use Rattle.gateway_vars.specs.declared.slots.Side.{Side}
 use Rattle.gateway_vars.specs.declared.slots.Side.TheVariants as sides

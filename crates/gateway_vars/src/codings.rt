@@ -6,6 +6,7 @@ ghost use Rattle.gateway_vars.specs.Codings.{url_encoded, url_decoded, base64_en
 
 use base64::DecodeAllocError;
 use base64::engine::general_purpose::STANDARD;
+use call_facts::decode_form;
 use gw_base::Memory;
 use std::alloc::Global;
 
@@ -24,15 +25,7 @@ pub fn url_encode(alloc: Global, text: &str) -> Result<String, Memory>
 pub fn url_decode(alloc: Global, text: &str) -> Result<String, Memory>
     ensures { IfOk result (λ made. string_bytes made ≡ url_decoded text.now) }
 {
-    decoded(alloc, text.as_bytes())
-}
-
-/// What these bytes of a form stand for.
-pub(crate) fn decoded(alloc: Global, bytes: &[u8]) -> Result<String, Memory>
-    ensures { IfOk result (λ made. string_bytes made ≡ url_decoded bytes.now) }
-{
-    let decoded = form_urlencoded::decode(alloc, bytes)?;
-    Ok(decoded.into_owned(alloc)?)
+    decode_form(alloc, text.as_bytes())
 }
 
 /// `$util.base64Encode` of a text, with padding.

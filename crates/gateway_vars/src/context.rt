@@ -1,32 +1,46 @@
 // The values of `$context` and of `$stageVariables`.
 ghost use Rattle.std.specs.Prelude.{◌≡◌, ◌<◌, ◌^◌, IfOk, map, false};
 ghost use Rattle.std.specs.Fmt.{decimal};
+ghost use Rattle.std.specs.String.{string_bytes};
 ghost use Rattle.vtl_eval.specs.Views.{stepped_of};
 ghost use Rattle.vtl_values.specs.Val.{text as text_val};
 ghost use Rattle.gateway_vars.specs.Escapes.{hex_digits};
-ghost use Rattle.gateway_vars.specs.Pairs.{last_value as last_of};
+ghost use Rattle.call_facts.specs.Pairs.{last_value as last_of};
 ghost use Rattle.gateway_vars.specs.Values.{text_or_null};
-ghost use Rattle.gateway_vars.specs.Facts.{of_request as of_request_of, of_call as of_call_of, context_named as context_named_of, identity_named as identity_named_of, claim_named as claim_named_of, refusal_named as refusal_named_of, context_part as context_part_of, context_one as context_one_of, context_two as context_two_of, context_below as context_below_of, context_value as context_value_of, variable_step as variable_step_of, variable_value as variable_value_of};
+ghost use Rattle.gateway_vars.specs.Facts.{stage_path as stage_path_of, of_request as of_request_of, of_call as of_call_of, context_named as context_named_of, identity_named as identity_named_of, claim_named as claim_named_of, error_named as error_named_of, context_part as context_part_of, context_one as context_one_of, context_two as context_two_of, context_below as context_below_of, context_value as context_value_of, variable_step as variable_step_of, variable_value as variable_value_of};
 
 use crate::escapes::{json_string, push_digits};
-use crate::pairs::{first_value, header_value, last_value};
 use crate::steps::{both_steps, only_step};
-use crate::target::stage_path;
 use crate::texts::{found_value, made_value, name_value, text_value};
-use call_facts::{CallFacts, Request};
+use call_facts::{CallFacts, Request, Target, first_value, header_value, last_value};
 use gw_base::{Memory, Text};
 use itoa::Buffer;
 use std::alloc::Global;
 use vtl_eval::Step;
 use vtl_values::Value;
 
-fn of_request(alloc: Global, request: &Request, name: &str) -> Result<Value, Memory>
-    ensures { IfOk result (λ v. v ≡ of_request_of request.now name.now) }
+// All that stands behind the API, as it is written.
+fn stage_path(alloc: Global, target: &Target) -> Result<String, Memory>
+    ensures { IfOk result (λ made. string_bytes made ≡ stage_path_of target.now) }
+{
+    let mut made = String::from_str(alloc, "/")?;
+    made.push_str(target.stage.as_str())?;
+    made.push_str(target.path.as_str())?;
+    Ok(made)
+}
+
+fn of_request(
+    alloc: Global,
+    request: &Request,
+    target: &Target,
+    name: &str,
+) -> Result<Value, Memory>
+    ensures { IfOk result (λ v. v ≡ of_request_of request.now target.now name.now) }
 {
     if name == "httpMethod" {
         text_value(alloc, request.method.as_str())
     } else if name == "path" {
-        made_value(stage_path(alloc, request.target.as_str())?)
+        made_value(stage_path(alloc, target)?)
     } else {
         Ok(Value::null())
     }
@@ -47,9 +61,15 @@ fn deployment_number(alloc: Global, deployment: u32) -> Result<Value, Memory>
     text_value(alloc, buffer.format(deployment))
 }
 
-fn of_call(alloc: Global, request: &Request, facts: &CallFacts, name: &str) -> Result<Value, Memory>
+fn of_call(
+    alloc: Global,
+    request: &Request,
+    target: &Target,
+    facts: &CallFacts,
+    name: &str,
+) -> Result<Value, Memory>
     requires { facts.now.at < 2 ^ 63 }
-    ensures { IfOk result (λ v. v ≡ of_call_of request.now facts.now name.now) }
+    ensures { IfOk result (λ v. v ≡ of_call_of request.now target.now facts.now name.now) }
 {
     if name == "requestId" {
         request_number(alloc, facts.place)
@@ -60,7 +80,7 @@ fn of_call(alloc: Global, request: &Request, facts: &CallFacts, name: &str) -> R
     } else if name == "isCanaryRequest" {
         Ok(Value::boolean(facts.canary))
     } else {
-        of_request(alloc, request, name)
+        of_request(alloc, request, target, name)
     }
 }
 
@@ -68,11 +88,12 @@ fn of_call(alloc: Global, request: &Request, facts: &CallFacts, name: &str) -> R
 fn context_named(
     alloc: Global,
     request: &Request,
+    target: &Target,
     facts: &CallFacts,
     name: &str,
 ) -> Result<Value, Memory>
     requires { facts.now.at < 2 ^ 63 }
-    ensures { IfOk result (λ v. v ≡ context_named_of request.now facts.now name.now) }
+    ensures { IfOk result (λ v. v ≡ context_named_of request.now target.now facts.now name.now) }
 {
     if name == "apiId" {
         text_value(alloc, facts.api.as_str())
@@ -81,7 +102,7 @@ fn context_named(
     } else if name == "resourcePath" {
         text_value(alloc, facts.resource.as_str())
     } else {
-        of_call(alloc, request, facts, name)
+        of_call(alloc, request, target, facts, name)
     }
 }
 
@@ -112,30 +133,29 @@ fn identity_named(
 fn claim_named(alloc: Global, facts: &CallFacts, name: &str) -> Result<Value, Memory>
     ensures { IfOk result (λ v. v ≡ claim_named_of facts.now name.now) }
 {
-    match &facts.claims {
-        Some(claims) => {
-            if name == "principalId" {
-                text_value(alloc, claims.principal.as_str())
-            } else {
-                found_value(alloc, first_value(claims.context.as_slice(), name))
-            }
-        }
-        None => Ok(Value::null()),
+    let Some(policy) = &facts.policy else {
+        return Ok(Value::null());
+    };
+    let policy = policy.value();
+    if name == "principalId" {
+        text_value(alloc, policy.principal.as_str())
+    } else {
+        found_value(alloc, first_value(policy.context.as_slice(), name))
     }
 }
 
-#[tactic(auto, unfolding(crate::specs::Facts::refusal_named))]
-fn refusal_named(alloc: Global, facts: &CallFacts, name: &str) -> Result<Value, Memory>
-    ensures { IfOk result (λ v. v ≡ refusal_named_of facts.now name.now) }
+#[tactic(auto, unfolding(crate::specs::Facts::error_named))]
+fn error_named(alloc: Global, facts: &CallFacts, name: &str) -> Result<Value, Memory>
+    ensures { IfOk result (λ v. v ≡ error_named_of facts.now name.now) }
 {
-    match &facts.refusal {
-        Some(refusal) => {
+    match &facts.error {
+        Some((kind, message)) => {
             if name == "message" {
-                text_value(alloc, refusal.message.as_str())
+                text_value(alloc, message.as_str())
             } else if name == "messageString" {
-                made_value(json_string(alloc, refusal.message.as_str())?)
+                made_value(json_string(alloc, message.as_str())?)
             } else if name == "responseType" {
-                made_value(refusal.kind.to_string(alloc)?)
+                made_value(kind.to_string(alloc)?)
             } else {
                 Ok(Value::null())
             }
@@ -158,7 +178,7 @@ fn context_part(
     } else if group == "authorizer" {
         claim_named(alloc, facts, name)
     } else if group == "error" {
-        refusal_named(alloc, facts, name)
+        error_named(alloc, facts, name)
     } else {
         Ok(Value::null())
     }
@@ -167,14 +187,15 @@ fn context_part(
 fn context_one(
     alloc: Global,
     request: &Request,
+    target: &Target,
     facts: &CallFacts,
     step: &Step,
 ) -> Result<Value, Memory>
     requires { facts.now.at < 2 ^ 63 }
-    ensures { IfOk result (λ v. v ≡ context_one_of request.now facts.now (stepped_of step.now)) }
+    ensures { IfOk result (λ v. v ≡ context_one_of request.now target.now facts.now (stepped_of step.now)) }
 {
     match step {
-        Step::Name(name) => context_named(alloc, request, facts, name.as_str()),
+        Step::Name(name) => context_named(alloc, request, target, facts, name.as_str()),
         Step::Index(_) => Ok(Value::null()),
         Step::Call(_, _) => Ok(Value::null()),
     }
@@ -217,14 +238,15 @@ fn context_below(
 pub fn context_value(
     alloc: Global,
     request: &Request,
+    target: &Target,
     facts: &CallFacts,
     path: &[Step],
 ) -> Result<Value, Memory>
     requires { facts.now.at < 2 ^ 63 }
-    ensures { IfOk result (λ v. v ≡ context_value_of request.now facts.now (map stepped_of path.now)) }
+    ensures { IfOk result (λ v. v ≡ context_value_of request.now target.now facts.now (map stepped_of path.now)) }
 {
     match only_step(path) {
-        Some(step) => context_one(alloc, request, facts, step),
+        Some(step) => context_one(alloc, request, target, facts, step),
         None => match both_steps(path) {
             Some((step, behind)) => context_two(alloc, request, facts, step, behind),
             None => Ok(Value::null()),

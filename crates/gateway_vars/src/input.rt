@@ -7,10 +7,11 @@ ghost use Rattle.vtl_values.specs.Val.{text as text_val};
 ghost use Rattle.gateway_vars.specs.Input.{param as param_of_name, param_of, json_of, path_of, all_params as all_params_of, input_method as input_method_of, input_none as input_none_of, input_one as input_one_of, input_call as input_call_of, input_named as input_named_of, input_step as input_step_of, input_value as input_value_of};
 ghost use Rattle.gateway_vars.specs.Params.{params_of};
 
-use crate::pairs::{first_value, header_map, header_value, named_map};
+use crate::pairs::{header_map, named_map};
 use crate::payload::Payload;
 use crate::steps::{only_argument, only_step};
 use crate::texts::{lossy, made_value, text_value};
+use call_facts::{first_value, header_value};
 use gw_base::{Memory, Text};
 use std::alloc::Global;
 use std::rc::RcStr;

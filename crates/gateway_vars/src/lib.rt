@@ -1,15 +1,15 @@
 //! The values of `$input`, `$context`, `$util` and `$stageVariables` in mapping templates, and what templates write over.
 //!
 //! * [`RequestRoots`] and [`ResponseRoots`] are the roots of a request's template and of a response's: the
-//!   [`Roots`](vtl_eval::Roots) over which a template is rendered. They borrow a [`Request`], what was found of its path,
-//!   the [`CallFacts`], and a response's also a [`WireReply`]. The body is read as a document once, when they are made.
+//!   [`Roots`](vtl_eval::Roots) over which a template is rendered. They borrow a request, the parts of its target, what was found
+//!   of its path, the facts of the call, and a response's also the reply. The body is read as a document once, when they are made.
 //! * [`Overrides`] are the values that a template wrote over those of its message.
 //! * [`input_value`], [`context_value`], [`util_value`] and [`variable_value`] are the values below one root, and
 //!   [`escape_java_script`], [`url_encode`], [`base64_decode`] and the others those of one method.
 //!
 //! ```text
 //! let template = Template::read(alloc, "$input.json('$.a') $context.httpMethod")?;
-//! let mut roots = RequestRoots::new(alloc, &request, &found, &facts)?;
+//! let mut roots = RequestRoots::new(alloc, &request, &target, &found, &facts)?;
 //! let rendered = render(alloc, &template, &mut roots, 1_000_000)?;   // [1,2.50] POST
 //! let overrides = roots.overrides(alloc)?;
 //! ```
@@ -60,22 +60,18 @@ mod slots;
 mod sources;
 mod steps;
 mod table;
-mod target;
 mod texts;
 mod util;
 
-pub use call_facts::{CallFacts, Claims, Kind, Refusal, Request, Vars, WireReply};
 pub use changes::Overrides;
 pub use codings::{base64_decode, base64_encode, url_decode, url_encode};
 pub use context::{context_value, variable_value};
 pub use documents::{node_value, parse_json, read_document};
 pub use escapes::{escape_java_script, json_string};
 pub use input::{Params, input_value};
-pub use pairs::{first_value, header_value, last_value, same_name};
 pub use payload::Payload;
 pub use roots::{RequestRoots, ResponseRoots};
 pub use slots::{Part, Side, slot_of};
-pub use target::{api_name, query_pairs, stage_name, stage_path};
 pub use util::util_value;
 
 #[cfg(test)]

@@ -9,7 +9,7 @@ use crate::changes::{Overrides, overridden};
 use crate::slots::{Side, kept_at};
 use crate::sources::Sources;
 use crate::table::{Row, put_row};
-use call_facts::{CallFacts, Request, WireReply};
+use call_facts::{CallFacts, Request, Target, WireReply};
 use gw_base::{Memory, Text};
 use resource_tree::Found;
 use std::alloc::Global;
@@ -33,18 +33,26 @@ impl<'a> Drop for RequestRoots<'a> {
 }
 
 impl<'a> RequestRoots<'a> {
-    /// The roots of a request, to which nothing was written. The body is read here, once.
+    /// The roots of a request with the parts of its target, to which nothing was written. The body is read here, once.
     pub fn new(
         alloc: Global,
         request: &'a Request,
+        target: &'a Target,
         found: &'a Found,
         facts: &'a CallFacts,
     ) -> Result<Self, Memory>
         requires { facts.now.at < 4102444800000 }
-        ensures held { IfOk result (λ roots. request_held roots ≡ asked request.now found.now facts.now) }
+        ensures held { IfOk result (λ roots. request_held roots ≡ asked request.now target.now found.now facts.now) }
         ensures kept { IfOk result (λ roots. request_kept roots ≡ []) }
     {
-        let sources = Sources::new(alloc, request.body.as_slice(), request, found, facts)?;
+        let sources = Sources::new(
+            alloc,
+            request.body.as_slice(),
+            request,
+            target,
+            found,
+            facts,
+        )?;
         Ok(RequestRoots {
             sources,
             rows: Vec::new(alloc),
@@ -104,15 +112,16 @@ impl<'a> ResponseRoots<'a> {
     pub fn new(
         alloc: Global,
         request: &'a Request,
+        target: &'a Target,
         found: &'a Found,
         facts: &'a CallFacts,
         reply: &'a WireReply,
     ) -> Result<Self, Memory>
         requires { facts.now.at < 4102444800000 }
-        ensures held { IfOk result (λ roots. response_held roots ≡ replied request.now found.now facts.now reply.now) }
+        ensures held { IfOk result (λ roots. response_held roots ≡ replied request.now target.now found.now facts.now reply.now) }
         ensures kept { IfOk result (λ roots. response_kept roots ≡ []) }
     {
-        let sources = Sources::new(alloc, reply.body.as_slice(), request, found, facts)?;
+        let sources = Sources::new(alloc, reply.body.as_slice(), request, target, found, facts)?;
         Ok(ResponseRoots {
             sources,
             rows: Vec::new(alloc),

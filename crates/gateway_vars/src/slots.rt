@@ -4,8 +4,7 @@ ghost use Rattle.std.specs.Option.{option_map};
 ghost use Rattle.gateway_vars.specs.Values.{only};
 ghost use Rattle.gateway_vars.specs.Writing.{named as named_of, bare as bare_of, request_part as request_part_of, response_part as response_part_of, part_below as part_below_of, group_of, slot_of as slot_of_path, kept_name as kept_name_of, path_at as path_at_of, kept_at as kept_at_of};
 
-use crate::pairs::lower;
-use gw_base::{Memory, Text};
+use gw_base::{Memory, Text, lower};
 use std::alloc::Global;
 
 /// Whose template writes.

@@ -6,22 +6,21 @@ ghost use Rattle.gateway_vars.specs.Held.{root as root_of, params_of};
 use crate::context::{context_value, variable_value};
 use crate::input::{Params, input_value};
 use crate::payload::Payload;
-use crate::target::query_pairs;
 use crate::util::util_value;
-use call_facts::{CallFacts, Request};
-use gw_base::{Memory, Text};
+use call_facts::{CallFacts, Request, Target};
+use gw_base::Memory;
 use resource_tree::Found;
 use std::alloc::Global;
 use std::marker::Model;
 use vtl_eval::{Root, Step};
 use vtl_values::Value;
 
-/// A body with its document, a request with the pairs of its query, and the facts of a call.
+/// A body with its document, a request with the parts of its target, and the facts of a call.
 #[derive(Drop)]
 pub struct Sources<'a> {
     body: Payload<'a>,
-    query: Vec<(Text, Text)>,
     request: &'a Request,
+    target: &'a Target,
     found: &'a Found,
     facts: &'a CallFacts,
 }
@@ -32,29 +31,29 @@ impl<'a> Model for Sources<'a> {
 
     ghost Value = { Held };
 
-    ghost view = { λ s. record { body = s.body; params = record { path = s.found.now.params; query = s.query.items; header = s.request.now.headers }; request = s.request.now; facts = s.facts.now } };
+    ghost view = { λ s. record { body = s.body; params = record { path = s.found.now.params; query = s.target.now.query; header = s.request.now.headers }; request = s.request.now; target = s.target.now; facts = s.facts.now } };
 
     ghost invariant = { λ s. s.facts.now.at < 4102444800000 };
 }
 
 impl<'a> Sources<'a> {
-    /// Reads the document that the body is, and the query of the request.
+    /// Reads the document that the body is.
     pub fn new(
         alloc: Global,
         body: &'a [u8],
         request: &'a Request,
+        target: &'a Target,
         found: &'a Found,
         facts: &'a CallFacts,
     ) -> Result<Self, Memory>
         requires { facts.now.at < 4102444800000 }
-        ensures { IfOk result (λ s. s ≡ record { body = body.now; params = params_of request.now found.now; request = request.now; facts = facts.now }) }
+        ensures { IfOk result (λ s. s ≡ record { body = body.now; params = params_of request.now target.now found.now; request = request.now; target = target.now; facts = facts.now }) }
     {
         let body = Payload::new(alloc, body)?;
-        let query = query_pairs(alloc, request.target.as_str())?;
         Ok(Sources {
             body,
-            query,
             request,
+            target,
             found,
             facts,
         })
@@ -68,12 +67,12 @@ impl<'a> Sources<'a> {
             Root::Input => {
                 let params = Params {
                     path: self.found.params.as_slice(),
-                    query: &self.query,
+                    query: self.target.query.as_slice(),
                     header: self.request.headers.as_slice(),
                 };
                 input_value(alloc, &self.body, params, path)
             }
-            Root::Context => context_value(alloc, self.request, self.facts, path),
+            Root::Context => context_value(alloc, self.request, self.target, self.facts, path),
             Root::Util => util_value(alloc, path),
             Root::StageVariables => variable_value(alloc, self.facts, path),
         }

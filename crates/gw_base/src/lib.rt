@@ -42,6 +42,3 @@ pub use outside::{Failed, Memory, Sink, Source, WriteStop};
 pub use readings::{Clock, FixedClock, SplitMix, Words};
 pub use texts::{Bytes, Text};
 pub use whole::{ReadAll, read_all, write_all};
-
-#[cfg(test)]
-mod tests;

@@ -6,7 +6,7 @@ use Rattle.std.specs.Fmt.{decimal}
 use Rattle.http.specs.StatusCode.{reason_phrase}
 use Rattle.http_framing.specs.declared.fault.EdgeFault.{EdgeFault}
 use Rattle.http_framing.specs.declared.fault.EdgeFault.TheVariants.{BadHead, HeadTooLong, BadChunk}
-use Rattle.method_flow.specs.declared.answer.Answer.{Answer}
+use Rattle.call_facts.specs.declared.answer.Answer.{Answer}
 use Rattle.http_edge.specs.Statuses.{is_bare}
 
 -- the end of a line

@@ -7,9 +7,9 @@ ghost use Rattle.http.specs.StatusCode.{reason_phrase};
 ghost use Rattle.http_edge.specs.Answers.{status_line, header_line, closing_line, length_line, body_written, spelled};
 
 use crate::status::is_bare;
+use call_facts::Answer;
 use gw_base::{Memory, Text};
 use http::StatusCode;
-use method_flow::Answer;
 use std::alloc::Global;
 
 // The phrase of a status, empty where it has none.

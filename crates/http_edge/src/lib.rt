@@ -65,8 +65,3 @@ pub use incoming::Incoming;
 pub use message::next_message;
 pub use refusal::{busy_answer, edge_answer};
 pub use reply::next_reply;
-
-#[cfg(test)]
-mod tables;
-#[cfg(test)]
-mod tests;

@@ -3,7 +3,7 @@ use Rattle.std.specs.Prelude.{ℕ, ◌==◌, nat_lt, Bool, false, not, ◌||◌,
 use Rattle.std.specs.List.{slice_split, list_all, list_any}
 use Rattle.std.specs.Str.{str_eq_ignore_ascii_case}
 use Rattle.call_facts.specs.declared.request.Request.{Request}
-use Rattle.gateway_vars.specs.Pairs.{header_value}
+use Rattle.call_facts.specs.Pairs.{header_value}
 
 -- a space or a tab
 abbrev pub is_blank : ℕ → Bool

@@ -8,10 +8,12 @@ use Rattle.book_core.specs.declared.events.Event.TheVariants.{Enter, Leave}
 use Rattle.book_core.specs.declared.events.Limits.{Limits}
 use Rattle.call_facts.specs.declared.request.Request.{Request}
 use Rattle.http_edge.specs.Answers.{spelled}
-use Rattle.play_connection.specs.Answering.{Made, made_for}
+use Rattle.call_facts.specs.Target.{target_of}
+use Rattle.call_facts.specs.declared.target.Target.{Target}
+use Rattle.method_flow.specs.declared.answers.Made.{Made}
+use Rattle.play_connection.specs.Answering.{made_for}
 use Rattle.play_connection.specs.Closing.{closes}
-use Rattle.gateway_vars.specs.Target.{api_name, stage_name}
-use Rattle.play_connection.specs.declared.ended.Fullness.{Fullness}
+use Rattle.play_connection.specs.declared.ended.SessionFull.{SessionFull}
 
 -- a message that was answered: the history behind its Leave, the bytes, and whether the connection closes
 pub record Exchange : Type 0 where
@@ -22,22 +24,22 @@ pub record Exchange : Type 0 where
 -- a step that was refused, since the session is full
 pub record Refused : Type 0 where
   pub history : List Entry
-  pub full : Fullness
+  pub full : SessionFull
 
 -- the history with an event of the one seat, or the numbers that show that it is full
-abbrev pub taken : Limits → List Entry → Event → Result (List Entry) Fullness
+abbrev pub taken : Limits → List Entry → Event → Result (List Entry) SessionFull
 taken limits history event =
     if is_full limits history event then Err (record { entries = length history; bytes = total_size history })
     else Ok (history ++ record { seat = 0; event = event; kept = true } ∷ [])
 
 -- where there is room
-abbrev pub with_room : List Entry → Result (List Entry) Fullness → (List Entry → Result Exchange Refused) → Result Exchange Refused
+abbrev pub with_room : List Entry → Result (List Entry) SessionFull → (List Entry → Result Exchange Refused) → Result Exchange Refused
 with_room history (Ok after) next = next after
 with_room history (Err full) next = Err (record { history = history; full = full })
 
 -- a request comes to the stage that its target names
-abbrev pub entry_of : ℕ → ℕ → Request → Event
-entry_of moment word r = Enter moment word (api_name r.target) (stage_name r.target)
+abbrev pub entry_of : ℕ → ℕ → Target → Event
+entry_of moment word target = Enter moment word target.api target.stage
 
 abbrev pub is_head : Request → Bool
 is_head r = bytes_eq r.method (codes "HEAD")
@@ -48,8 +50,12 @@ left limits number large r history made =
     with_room history (taken limits history (Leave made.answer.status made.cause))
     (λ after. Ok (record { history = after; bytes = spelled made.answer (is_head r) (closes number large r); closes = closes number large r }))
 
+-- a message with this target
+abbrev pub served_at : Base → ℕ → ℕ → ℕ → List Entry → Bool → Request → Target → Result Exchange Refused
+served_at base moment word number history large r target =
+    with_room history (taken base.limits history (entry_of moment word target))
+    (λ entered. left base.limits number large r entered (made_for large (reply base.opening history (entry_of moment word target) true) r target))
+
 -- the message of this number, which is too large or whole, at this moment and with this word
 unfoldable pub served : Base → ℕ → ℕ → ℕ → List Entry → Bool → Request → Result Exchange Refused
-served base moment word number history large r =
-    with_room history (taken base.limits history (entry_of moment word r))
-    (λ entered. left base.limits number large r entered (made_for large (reply base.opening history (entry_of moment word r) true) r))
+served base moment word number history large r = served_at base moment word number history large r (target_of r.target)

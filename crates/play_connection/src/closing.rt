@@ -4,8 +4,7 @@ ghost use Rattle.std.specs.Borrow.{Bor};
 ghost use Rattle.std.specs.List.{slice_split, list_all, list_any};
 ghost use Rattle.play_connection.specs.Closing.{is_blank as is_blank_of, without_front_blanks, is_close as is_close_of, asks_close as asks_close_of, closes as closes_of};
 
-use call_facts::Request;
-use gateway_vars::header_value;
+use call_facts::{Request, header_value};
 use gw_base::Memory;
 use std::alloc::{AllocError, Global};
 
@@ -24,7 +23,7 @@ fn are_blank(bytes: &[u8]) -> bool
     bytes.iter().all(|b| is_blank(*b))
 }
 
-fn front_trimmed(bytes: &[u8]) -> &[u8]
+fn trim_front(bytes: &[u8]) -> &[u8]
     ensures { result.now ≡ without_front_blanks bytes.now }
 {
     let mut rest = bytes;
@@ -41,7 +40,7 @@ fn front_trimmed(bytes: &[u8]) -> &[u8]
 fn is_close(element: &[u8]) -> bool
     ensures { result ≡ is_close_of element.now }
 {
-    let rest = front_trimmed(element);
+    let rest = trim_front(element);
     if rest.len() < 5 {
         return false;
     }

@@ -3,7 +3,7 @@ use std::fmt;
 
 /// The history is full: it has this many entries, and its events' texts this many bytes.
 #[derive(Clone, Copy, Debug, PartialEq, Eq)]
-pub struct Fullness {
+pub struct SessionFull {
     pub entries: u32,
     pub bytes: u64,
 }

@@ -28,12 +28,11 @@
 mod answering;
 mod closing;
 mod ended;
-mod feed;
 pub mod laws;
 mod serving;
+mod slice_source;
 mod talk;
 
-pub use answering::nothing_found;
-pub use ended::{Ended, Fullness};
-pub use feed::Feed;
+pub use ended::{Ended, SessionFull};
+pub use slice_source::SliceSource;
 pub use talk::{Talk, connect};

@@ -5,8 +5,8 @@ ghost use Rattle.http_edge.specs.declared.incoming.Incoming.TheVariants.{End as 
 ghost use Rattle.play_connection.specs.Talks.{Connects, edge_end as edge_end_of, message_of};
 
 use crate::ended::Ended;
-use crate::feed::Feed;
-use crate::serving::served;
+use crate::serving::serve;
+use crate::slice_source::SliceSource;
 use book_core::Book;
 use call_facts::Request;
 use gw_base::{Bytes, Memory};
@@ -46,7 +46,7 @@ fn request_of(incoming: Incoming) -> Option<(bool, Request)>
     }
 }
 
-fn said(written: Vec<u8>, ended: Ended) -> Talk
+fn end_talk(written: Vec<u8>, ended: Ended) -> Talk
     ensures { result ≡ record { written = written.items; ended = ended } }
 {
     Talk {
@@ -67,7 +67,7 @@ pub fn connect(
     ensures talks { IfOk result (λ t. Connects book.old.base moment word book.old.history bytes.now (record { history = book.new.history; written = t.written; ended = t.ended })) }
     ensures base { book.new.base ≡ book.old.base }
 {
-    let mut source = Feed::new(bytes);
+    let mut source = SliceSource::new(bytes);
     let mut rest = Buffer::new(alloc);
     let mut written = Vec::new(alloc);
     let mut number: u32 = 1;
@@ -79,17 +79,17 @@ pub fn connect(
                     return Err(Memory);
                 };
                 written.extend_from_slice(last)?;
-                return Ok(said(written, ended));
+                return Ok(end_talk(written, ended));
             }
         };
         let Some((too_large, request)) = request_of(incoming) else {
-            return Ok(said(written, Ended::Closed));
+            return Ok(end_talk(written, Ended::Closed));
         };
-        match served(book, alloc, moment, word, number, too_large, &request)? {
+        match serve(book, alloc, moment, word, number, too_large, &request)? {
             Ok(exchange) => {
                 written.extend_from_slice(exchange.bytes.as_slice())?;
                 if exchange.closes {
-                    return Ok(said(written, Ended::Closed));
+                    return Ok(end_talk(written, Ended::Closed));
                 }
                 number += 1;
             }
@@ -99,7 +99,7 @@ pub fn connect(
                     entries: full.entries,
                     bytes: full.bytes,
                 };
-                return Ok(said(written, ended));
+                return Ok(end_talk(written, ended));
             }
         }
     }

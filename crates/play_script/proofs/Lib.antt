@@ -2,7 +2,5 @@
 pub mod Playing
 -- the first line of a text
 pub mod Lines
--- numbers of digits
-pub mod Numbers
 -- text APIs that are refused
 pub mod Texts

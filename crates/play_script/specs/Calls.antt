@@ -8,7 +8,8 @@ use Rattle.http_framing.specs.declared.fault.EdgeFault.{EdgeFault}
 use Rattle.play_connection.specs.Printed.{ended_name}
 use Rattle.play_connection.specs.declared.ended.Ended.{Ended}
 use Rattle.play_connection.specs.declared.ended.Ended.TheVariants.{Closed, Cut, BadHead, BadChunk, HeadTooLong, SessionFull}
-use Rattle.play_script.specs.Printed.{coded, line_feed, full_line}
+use Rattle.play_script.specs.Printed.{line_feed, full_line}
+use Rattle.record_fields.specs.Writing.{coded}
 use Rattle.play_script.specs.declared.turns.End.{End}
 use Rattle.play_script.specs.declared.turns.End.TheVariants.{Full}
 

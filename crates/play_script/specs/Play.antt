@@ -14,7 +14,7 @@ use Rattle.book_core.specs.declared.events.Entry.{Entry}
 use Rattle.book_core.specs.declared.replies.Reply.{Reply}
 use Rattle.play_connection.specs.Serving.{taken}
 use Rattle.play_connection.specs.Talks.{Said, Connects}
-use Rattle.play_connection.specs.declared.ended.Fullness.{Fullness}
+use Rattle.play_connection.specs.declared.ended.SessionFull.{SessionFull}
 use Rattle.play_script.specs.Calls.{post_bytes, AreOutcomes, BreaksOutcomes, end_of, connection_lines}
 use Rattle.play_script.specs.Coding.{lines_of, is_passed_over}
 use Rattle.play_script.specs.Printed.{line_feed, reply_line, refused_line, full_line}
@@ -37,7 +37,7 @@ pub record Turn : Type 0 where
   pub ends : Option End
 
 -- a command prints its reply's line, where there is room for it
-abbrev pub commanded_by : Result (List Entry) Fullness → List Entry → Reply → Turn
+abbrev pub commanded_by : Result (List Entry) SessionFull → List Entry → Reply → Turn
 commanded_by (Ok after) history told = record { history = after; text = reply_line told; ends = None }
 commanded_by (Err full) history told = record { history = history; text = full_line full; ends = Some ends.Full }
 

@@ -2,22 +2,16 @@
 use Rattle.std.specs.Prelude.{ℕ, List, [], ◌∷◌, codes}
 use Rattle.std.specs.Fmt.{decimal}
 use Rattle.std.specs.List.{concat}
-use Rattle.percent_encoding.specs.Percent.{percent_encode}
 use Rattle.vtl_grammar.specs.Printed.{printed}
 use Rattle.book_core.specs.Printed.{refusal_name}
 use Rattle.book_core.specs.declared.replies.Reply.{Reply}
 use Rattle.book_core.specs.declared.replies.Reply.TheVariants.{Entered, NoStage, Store, Left, Done, Deployed, Refused}
-use Rattle.play_script.specs.declared.coding.TheConstants.{CODED}
 use Rattle.play_script.specs.declared.records.LineFault.{LineFault}
 use Rattle.play_script.specs.declared.records.LineFault.TheVariants.{BadRecord, NotBuilt, Template}
-use Rattle.play_connection.specs.declared.ended.Fullness.{Fullness}
+use Rattle.play_connection.specs.declared.ended.SessionFull.{SessionFull}
 
 abbrev pub line_feed : List ℕ
 line_feed = 10 ∷ []
-
--- bytes in a line: each outside 33 to 126, and `%`, is coded by `%` and two upper-case hexadecimal digits
-abbrev pub coded : List ℕ → List ℕ
-coded bytes = percent_encode CODED bytes
 
 -- the line of a command's reply
 abbrev pub reply_line : Reply → List ℕ
@@ -40,5 +34,5 @@ unfoldable pub refused_line : ℕ → LineFault → List ℕ
 refused_line number fault = concat (codes "refused line " ∷ decimal number ∷ codes " " ∷ line_fault fault ∷ line_feed ∷ [])
 
 -- the line that ends a play where the session is full
-unfoldable pub full_line : Fullness → List ℕ
+unfoldable pub full_line : SessionFull → List ℕ
 full_line full = concat (codes "full " ∷ decimal full.entries ∷ codes " " ∷ decimal full.bytes ∷ line_feed ∷ [])

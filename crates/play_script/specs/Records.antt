@@ -2,8 +2,10 @@
 use Rattle.std.specs.Prelude.{ℕ, ◌==◌, ◌+◌, nat_lt, Bool, not, ◌&&◌, ◌||◌, List, [], ◌∷◌, length, take, drop, position, codes, Option, Some, None, if◌then◌else◌, Result, Ok, Err}
 use Rattle.std.specs.Option.{option_and_then, option_map}
 use Rattle.std.specs.Str.{bytes_eq}
-use Rattle.book_core.specs.Names.{is_name}
-use Rattle.play_script.specs.Coding.{fields_of, text_of, number_of}
+use Rattle.gw_base.specs.Names.{is_name}
+use Rattle.record_fields.specs.Coding.{fields_of, text_of}
+use Rattle.record_fields.specs.Numbers.{number_of}
+use Rattle.record_fields.specs.Pairs.{pairs_of}
 use Rattle.play_script.specs.declared.records.Record.{Record}
 use Rattle.play_script.specs.declared.records.Record.TheVariants.{PutText, Deploy, PutStage, Post, Call}
 use Rattle.play_script.specs.declared.records.LineFault.{LineFault}
@@ -32,34 +34,14 @@ deploy_record m a = do
   api ← text_of a
   Ok (Deploy moment api)
 
--- what stands before the first `=` and behind it
-abbrev pub parted : List ℕ → Option (List ℕ × List ℕ)
-parted field = option_map (λ at. (take at field, drop (at + 1) field)) (position (λ b. b == 61) field)
-
--- a variable of a stage, `name=value`, both of which are texts
-abbrev pub variable_of : List ℕ → Option (List ℕ × List ℕ)
-variable_of field = option_and_then (λ p. option_and_then (λ name. option_map (λ value. (name, value)) (text_of p.1)) (text_of p.0)) (parted field)
-
-abbrev pub before_each : List ℕ × List ℕ → Option (List (List ℕ × List ℕ)) → Option (List (List ℕ × List ℕ))
-before_each pair rest = option_map (λ pairs. pair ∷ pairs) rest
-
--- the variables of some fields, where each has its form
-abbrev pub variables_of : List (List ℕ) → Option (List (List ℕ × List ℕ))
-variables_of [] = Some []
-variables_of (field ∷ fields) = option_and_then (λ pair. before_each pair (variables_of fields)) (variable_of field)
-
 unfoldable pub stage_record : List ℕ → List ℕ → List ℕ → List ℕ → List (List ℕ) → Reading
 stage_record m a s d fields = do
   moment ← number_of 64 m
   api ← text_of a
   stage ← text_of s
   deployment ← number_of 32 d
-  variables ← variables_of fields
+  variables ← pairs_of fields
   Ok (PutStage moment api stage deployment variables)
-
--- the most bytes of the body of the command `render`
-unfoldable pub body_limit : ℕ
-body_limit = 10485760
 
 -- a call's API and stage are names
 abbrev pub called : List ℕ → List ℕ → Record → Reading

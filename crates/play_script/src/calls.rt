@@ -15,13 +15,14 @@ use crate::reading::record_in;
 use crate::records::{LineFault, Record};
 use crate::turns::{End, Said};
 use api_model::{Api, ApiCause, ApiFault};
-use book_core::{Book, Command, Event, Reply, StepFault, Vars};
+use book_core::{Book, Command, Event, Reply, StepFault};
+use call_facts::Vars;
 use gw_base::{Bytes, Memory, Seq, Shared, Text};
-use play_connection::Fullness;
+use play_connection::SessionFull;
 use std::alloc::Global;
 
 // Takes an event of the one seat, or tells that the history is full.
-fn taken(book: &mut Book, alloc: Global, event: Event) -> Result<Result<Reply, Fullness>, Memory>
+fn take(book: &mut Book, alloc: Global, event: Event) -> Result<Result<Reply, SessionFull>, Memory>
     requires { book.old.base.opening ≡ no_rows }
     ensures told { IfOk result (λ r. MatchResult r
         (λ reply. (reply ≡ reply_of no_rows book.old.history event true) × (taken_of book.old.base.limits book.old.history event ≡ Ok book.new.history))
@@ -30,20 +31,20 @@ fn taken(book: &mut Book, alloc: Global, event: Event) -> Result<Result<Reply, F
 {
     match book.step(alloc, 0, event) {
         Ok(reply) => Ok(Ok(reply)),
-        Err(StepFault::SessionFull { entries, bytes }) => Ok(Err(Fullness { entries, bytes })),
+        Err(StepFault::SessionFull { entries, bytes }) => Ok(Err(SessionFull { entries, bytes })),
         Err(StepFault::Memory) => Err(Memory),
     }
 }
 
 // Carries out a command, and prints its reply.
 #[tactic(auto, unfolding(crate::specs::Play::commanded))]
-fn commanded(book: &mut Book, alloc: Global, moment: u64, command: Command) -> Result<Said, Memory>
+fn command(book: &mut Book, alloc: Global, moment: u64, command: Command) -> Result<Said, Memory>
     requires { book.old.base.opening ≡ no_rows }
     ensures does { IfOk result (λ said. commanded_of book.old.base.limits book.old.history moment command
         ≡ record { history = book.new.history; text = said.text; ends = said.ends }) }
     ensures base { book.new.base ≡ book.old.base }
 {
-    match taken(book, alloc, Event::Admin { moment, command })? {
+    match take(book, alloc, Event::Admin { moment, command })? {
         Ok(reply) => Ok(Said {
             text: reply_line(alloc, &reply)?,
             ends: None,
@@ -55,7 +56,7 @@ fn commanded(book: &mut Book, alloc: Global, moment: u64, command: Command) -> R
     }
 }
 
-fn refused(alloc: Global, number: u64, fault: LineFault) -> Result<Said, Memory>
+fn refuse(alloc: Global, number: u64, fault: LineFault) -> Result<Said, Memory>
     ensures { IfOk result (λ said. said ≡ record { text = refused_line_of number fault; ends = Some End.Refused }) }
 {
     Ok(Said {
@@ -81,14 +82,14 @@ fn put_text(
     match Api::text(alloc, template) {
         Ok(definition) => {
             let definition = Shared::new(alloc, definition)?;
-            commanded(book, alloc, moment, Command::PutApi { api, definition })
+            command(book, alloc, moment, Command::PutApi { api, definition })
         }
         Err(
             ApiFault {
                 cause: ApiCause::Template(fault),
                 ..
             },
-        ) => refused(alloc, number, LineFault::Template(fault)),
+        ) => refuse(alloc, number, LineFault::Template(fault)),
         Err(_) => Err(Memory),
     }
 }
@@ -109,17 +110,17 @@ fn put_stage(
     ensures base { book.new.base ≡ book.old.base }
 {
     let variables = Shared::new(alloc, Vars { pairs: variables })?;
-    let command = Command::PutStage {
+    let put = Command::PutStage {
         api,
         stage,
         deployment,
         variables,
     };
-    commanded(book, alloc, moment, command)
+    command(book, alloc, moment, put)
 }
 
 // A connection whose outcomes have their form.
-fn called(
+fn call(
     book: &mut Book,
     alloc: Global,
     number: u64,
@@ -135,11 +136,12 @@ fn called(
     if are_outcomes(alloc, outcomes)? {
         talked(book, alloc, moment, word, bytes)
     } else {
-        refused(alloc, number, LineFault::BadRecord)
+        refuse(alloc, number, LineFault::BadRecord)
     }
 }
 
-fn done(book: &mut Book, alloc: Global, number: u64, found: Record) -> Result<Said, Memory>
+// Does what a record says.
+fn carry_out(book: &mut Book, alloc: Global, number: u64, found: Record) -> Result<Said, Memory>
     requires { book.old.base.opening ≡ no_rows }
     ensures does { IfOk result (λ said. Does book.old.base.limits number book.old.history found (record { history = book.new.history; text = said.text; ends = said.ends })) }
     ensures base { book.new.base ≡ book.old.base }
@@ -150,7 +152,7 @@ fn done(book: &mut Book, alloc: Global, number: u64, found: Record) -> Result<Sa
             api,
             template,
         } => put_text(book, alloc, number, moment, api, template.as_str()),
-        Record::Deploy { moment, api } => commanded(book, alloc, moment, Command::Deploy { api }),
+        Record::Deploy { moment, api } => command(book, alloc, moment, Command::Deploy { api }),
         Record::PutStage {
             moment,
             api,
@@ -173,7 +175,7 @@ fn done(book: &mut Book, alloc: Global, number: u64, found: Record) -> Result<Sa
             word,
             bytes,
             outcomes,
-        } => called(
+        } => call(
             book,
             alloc,
             number,
@@ -198,7 +200,7 @@ pub fn play_line(book: &mut Book, alloc: Global, number: u64, line: &[u8]) -> Re
         });
     }
     match record_in(alloc, line)? {
-        Ok(found) => done(book, alloc, number, found),
-        Err(fault) => refused(alloc, number, fault),
+        Ok(found) => carry_out(book, alloc, number, found),
+        Err(fault) => refuse(alloc, number, fault),
     }
 }

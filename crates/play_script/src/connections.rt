@@ -5,11 +5,12 @@ ghost use Rattle.play_script.specs.Calls.{post_target as post_target_of, post_fi
 ghost use Rattle.play_script.specs.Play.{IsTalk};
 
 use crate::joining::joined;
-use crate::printed::{coded, full_line};
+use crate::printed::full_line;
 use crate::turns::{End, Said};
 use book_core::Book;
 use gw_base::{Memory, Text};
-use play_connection::{Ended, Fullness, connect};
+use play_connection::{Ended, SessionFull, connect};
+use record_fields::coded;
 use std::alloc::Global;
 
 #[tactic(auto, unfolding(crate::specs::Calls::post_target))]
@@ -63,7 +64,7 @@ fn full_lines(alloc: Global, ended: Ended) -> Result<Text, Memory>
     ensures { IfOk result (λ lines. lines ≡ full_lines_of ended) }
 {
     match ended {
-        Ended::SessionFull { entries, bytes } => full_line(alloc, Fullness { entries, bytes }),
+        Ended::SessionFull { entries, bytes } => full_line(alloc, SessionFull { entries, bytes }),
         Ended::Closed | Ended::Cut(_) | Ended::BadHead | Ended::BadChunk | Ended::HeadTooLong => Ok(
             Text::of(String::new(alloc)),
         ),

@@ -21,13 +21,12 @@
 //! | `stage 0 hello v1 1 env=x` | `done`, and `$stageVariables.env` is `x` in the answers of the stage |
 //!
 //! What is promised: what is written is `Plays` of `specs/Play.antt` to the byte, a definition that speaks of every script,
-//! or a front of it where a write is refused or memory is wanting; `specs/Coding.antt` says which lines and fields it has,
+//! or a front of it where a write is refused or memory is wanting; `specs/Coding.antt` says which lines it has,
 //! `specs/Records.antt` which records they are, and `specs/Printed.antt` and `specs/Calls.antt` what is printed.
-//! [`coded`] writes bytes as a line has them, and [`joined`] puts parts of a line together.
+//! [`joined`] puts parts of a line together. Fields are coded and read by `record_fields`.
 #![tactic(auto)]
 
 mod calls;
-mod coding;
 mod connections;
 mod fields;
 mod joining;
@@ -40,4 +39,3 @@ mod turns;
 
 pub use joining::joined;
 pub use play::play_within;
-pub use printed::coded;

@@ -5,14 +5,14 @@ ghost use Rattle.play_script.specs.Calls.{IsWhole, IsNoWhole, IsOutcome, IsNoOut
 
 use gw_base::{Bytes, Memory};
 use http_edge::{Buffer, EdgeFault, next_reply};
-use play_connection::Feed;
+use play_connection::SliceSource;
 use std::alloc::Global;
 
 // Whether a field is the bytes of one whole reply with nothing behind it.
 fn is_reply(alloc: Global, field: &[u8]) -> Result<bool, Memory>
     ensures { IfOk result (λ is. MatchBool is (IsWhole field.now) (IsNoWhole field.now)) }
 {
-    let mut source = Feed::new(field);
+    let mut source = SliceSource::new(field);
     let mut rest = Buffer::new(alloc);
     match next_reply(alloc, &mut source, &mut rest, false) {
         Ok(_) => Ok(rest.is_empty() && source.is_empty()),

@@ -1,24 +1,13 @@
 // The lines that are printed.
 ghost use Rattle.std.specs.Prelude.{◌≡◌, ◌<◌, ◌^◌, IfOk};
-ghost use Rattle.play_script.specs.Printed.{coded as coded_of, reply_line as reply_line_of, line_fault as line_fault_of, refused_line as refused_line_of, full_line as full_line_of};
+ghost use Rattle.play_script.specs.Printed.{reply_line as reply_line_of, line_fault as line_fault_of, refused_line as refused_line_of, full_line as full_line_of};
 
-use crate::coding::CODED;
 use crate::joining::joined;
 use crate::records::LineFault;
 use book_core::Reply;
 use gw_base::{Memory, Text};
-use percent_encoding::percent_encode;
-use play_connection::Fullness;
+use play_connection::SessionFull;
 use std::alloc::Global;
-
-/// Bytes in a line.
-pub fn coded(alloc: Global, bytes: &[u8]) -> Result<Text, Memory>
-    ensures { IfOk result (λ text. text ≡ coded_of bytes.now) }
-{
-    let mut text = String::new(alloc);
-    percent_encode(bytes, CODED).append_to(&mut text)?;
-    Ok(Text::of(text))
-}
 
 /// The line of a command's reply.
 pub fn reply_line(alloc: Global, reply: &Reply) -> Result<Text, Memory>
@@ -67,7 +56,7 @@ pub fn refused_line(alloc: Global, number: u64, fault: LineFault) -> Result<Text
 
 /// The line that ends a play where the session is full.
 #[tactic(auto, unfolding(crate::specs::Printed::full_line))]
-pub fn full_line(alloc: Global, full: Fullness) -> Result<Text, Memory>
+pub fn full_line(alloc: Global, full: SessionFull) -> Result<Text, Memory>
     ensures { IfOk result (λ line. line ≡ full_line_of full) }
 {
     let entries = full.entries.to_string(alloc)?;

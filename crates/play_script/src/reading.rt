@@ -1,12 +1,10 @@
 // The record of a line.
-ghost use Rattle.std.specs.Prelude.{◌≡◌, ◌≢◌, ◌==◌, ◌<◌, length, position, Ok, Err, IfOk, IfErr, IfSome, OnOk};
-ghost use Rattle.std.specs.Option.{option_map};
-ghost use Rattle.play_script.specs.Records.{parted as parted_of, variable_of, variables_of, called as called_of, text_record as text_record_of, deploy_record as deploy_record_of, stage_record as stage_record_of, post_record as post_record_of, call_record as call_record_of, call_fields as call_fields_of, text_fields as text_fields_of, deploy_fields as deploy_fields_of, stage_fields as stage_fields_of, post_fields as post_fields_of, is_held_back as is_held_back_of, record_of as record_of_fields, record_in as record_in_line};
+ghost use Rattle.std.specs.Prelude.{◌≡◌, ◌≢◌, Ok, Err, IfOk};
+ghost use Rattle.play_script.specs.Records.{called as called_of, text_record as text_record_of, deploy_record as deploy_record_of, stage_record as stage_record_of, post_record as post_record_of, call_record as call_record_of, call_fields as call_fields_of, text_fields as text_fields_of, deploy_fields as deploy_fields_of, stage_fields as stage_fields_of, post_fields as post_fields_of, is_held_back as is_held_back_of, record_of as record_of_fields, record_in as record_in_line};
 
-use crate::fields::{fields_in, number, small_number, text_of};
 use crate::records::{LineFault, Record};
-use book_core::is_name;
-use gw_base::{Bytes, Memory, Seq, Text};
+use gw_base::{Bytes, Memory, Seq, is_name};
+use record_fields::{fields_in, number, pairs_in, small_number, text_of};
 use std::alloc::Global;
 
 /// A record, or why the line has none.
@@ -45,51 +43,6 @@ fn deploy_record(alloc: Global, moment: &[u8], api: &[u8]) -> Result<Reading, Me
     Ok(Ok(Record::Deploy { moment, api }))
 }
 
-fn equals_at(field: &[u8]) -> Option<usize>
-    ensures value { result ≡ position (λ b. b == 61) field.now }
-    ensures bound { IfSome result (λ at. at < length field.now) }
-{
-    field.iter().position(|b| *b == b'=')
-}
-
-// What stands before the first `=` and behind it.
-fn parted(field: &[u8]) -> Option<(&[u8], &[u8])>
-    ensures { option_map (λ p. (p.0.now, p.1.now)) result ≡ parted_of field.now }
-{
-    match equals_at(field) {
-        Some(at) => Some((&field[..at], &field[at + 1..])),
-        None => None,
-    }
-}
-
-fn variable(alloc: Global, field: &[u8]) -> Result<Option<(Text, Text)>, Memory>
-    ensures { IfOk result (λ pair. pair ≡ variable_of field.now) }
-{
-    let Some((name, value)) = parted(field) else {
-        return Ok(None);
-    };
-    let Some(name) = text_of(alloc, name)? else {
-        return Ok(None);
-    };
-    let Some(value) = text_of(alloc, value)? else {
-        return Ok(None);
-    };
-    Ok(Some((name, value)))
-}
-
-fn variables(alloc: Global, fields: &[Bytes]) -> Result<Option<Vec<(Text, Text)>>, Memory>
-    ensures { IfOk result (λ pairs. option_map (λ v. v.items) pairs ≡ variables_of fields.now) }
-{
-    let mut pairs = Vec::new(alloc);
-    for field in fields {
-        let Some(pair) = variable(alloc, field.as_slice())? else {
-            return Ok(None);
-        };
-        pairs.push(pair)?;
-    }
-    Ok(Some(pairs))
-}
-
 #[tactic(auto, unfolding(crate::specs::Records::stage_record))]
 fn stage_record(
     alloc: Global,
@@ -113,7 +66,7 @@ fn stage_record(
     let Some(deployment) = small_number(deployment) else {
         return Ok(Err(LineFault::BadRecord));
     };
-    let Some(variables) = variables(alloc, fields)? else {
+    let Some(variables) = pairs_in(alloc, fields)? else {
         return Ok(Err(LineFault::BadRecord));
     };
     Ok(Ok(Record::PutStage {

@@ -82,6 +82,3 @@ mod view;
 pub use desk::Desk;
 pub use machine::Machine;
 pub use seat::Seat;
-
-#[cfg(test)]
-mod tests;

@@ -42,8 +42,6 @@
 mod allowance;
 pub mod laws;
 mod period;
-#[cfg(test)]
-mod tests;
 mod throttle;
 
 pub use allowance::{Allowance, Quota};

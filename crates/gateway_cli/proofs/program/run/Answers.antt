@@ -1,4 +1,4 @@
-use Rattle.std.proofs.Common.{inl, inr}
+use Rattle.std.proofs.Common.{inl, inr, arith}
 use Rattle.gateway_cli.proofs.Inputs.{of_each}
 use Rattle.gateway_cli.proofs.program.run.Goals as goal
 
@@ -13,5 +13,14 @@ pub returns-in-Err-File-clause-fault : goal.returns-in-Err-File-clause-fault
 returns-in-Err-File-clause-fault g c =
     let rose = c.in-Err-File.ensures.file (cc c.in-Err-File.field-0-is) in
     λ e. of_each (g.I.Source.left c.args.input.now) _ _
-    (λ script. of_each (g.O.Outside.files c.args.outside.now) _ _ (λ files front. inr (inr (rose, (g.W.Sink.written c.respond.new.output, front, c.say_fault-in-Err-File.ensures.front)))))
+    (λ script. of_each (g.O.Outside.files c.args.outside.now) _ _
+    (λ files front. inr (inl (rose.1, (rose.0, (g.W.Sink.written c.respond.new.output, front, c.say_fault-in-Err-File.ensures.front))))))
     c.in-Err-File.ensures.front
+
+pub returns-in-Err-Output-clause-fault : goal.returns-in-Err-Output-clause-fault
+returns-in-Err-Output-clause-fault g c =
+    let rose = c.in-Err-Output.ensures.output (cc c.in-Err-Output.field-0-is) in
+    λ e. of_each (g.I.Source.left c.args.input.now) _ _
+    (λ script. of_each (g.O.Outside.files c.args.outside.now) _ _
+    (λ files front. inr (inr (rose.1, rose.2, (omega (arith, rose.0, c.say_fault-in-Err-Output.ensures.later), (g.W.Sink.written c.respond.new.output, front, c.say_fault-in-Err-Output.ensures.front))))))
+    c.in-Err-Output.ensures.front

@@ -43,7 +43,7 @@ returns-then-exchange-clause-talks c =
     let rest = c.next_message.new.rest.bytes ++ c.next_message.new.source in
     let message : c.in-Ok.incoming ≡ message_of large r = search rules in
     let next : IsNext left (Ok (message_of large r)) rest = subst (λ m. IsNext left (Ok m) rest) message (c.in-Ok.ensures.next c.loop-incoming.invariant.fault) in
-    let e : Exchange = record { history = c.served.new.book.history; bytes = c.in-Ok-2.exchange.bytes; closes = c.in-Ok-2.exchange.closes } in
+    let e : Exchange = record { history = c.serve.new.book.history; bytes = c.in-Ok-2.exchange.bytes; closes = c.in-Ok-2.exchange.closes } in
     let told = if_ok_is c.in_ok-exchange.field-0 _ _ c.in-Ok-2.exchange c.in-Ok-2.is c.in_ok-exchange.ensures.does in
     let is : served base c.args.moment c.args.word c.loop-incoming.number c.loop-incoming.book.history large r ≡ Ok e =
     subst (λ b. served b c.args.moment c.args.word c.loop-incoming.number c.loop-incoming.book.history large r ≡ Ok e) c.loop-incoming.invariant.base told in
@@ -60,7 +60,7 @@ returns-in-Err-2-clause-talks c =
     let rest = c.next_message.new.rest.bytes ++ c.next_message.new.source in
     let message : c.in-Ok.incoming ≡ message_of large r = search rules in
     let next : IsNext left (Ok (message_of large r)) rest = subst (λ m. IsNext left (Ok m) rest) message (c.in-Ok.ensures.next c.loop-incoming.invariant.fault) in
-    let full : Refused = record { history = c.served.new.book.history; full = c.in-Err-2.full } in
+    let full : Refused = record { history = c.serve.new.book.history; full = c.in-Err-2.full } in
     let told = if_err_is c.in_ok-exchange.field-0 _ _ c.in-Err-2.full c.in-Err-2.is c.in_ok-exchange.ensures.does in
     let is : served base c.args.moment c.args.word c.loop-incoming.number c.loop-incoming.book.history large r ≡ Err full =
     subst (λ b. served b c.args.moment c.args.word c.loop-incoming.number c.loop-incoming.book.history large r ≡ Err full) c.loop-incoming.invariant.base told in
@@ -83,17 +83,17 @@ loop-incoming-preserved c =
     let rest = c.next_message.new.rest.bytes ++ c.next_message.new.source in
     let message : c.in-Ok.incoming ≡ message_of large r = search rules in
     let next : IsNext left (Ok (message_of large r)) rest = subst (λ m. IsNext left (Ok m) rest) message (c.in-Ok.ensures.next c.loop-incoming.invariant.fault) in
-    let e : Exchange = record { history = c.served.new.book.history; bytes = c.in-Ok-2.exchange.bytes; closes = c.in-Ok-2.exchange.closes } in
+    let e : Exchange = record { history = c.serve.new.book.history; bytes = c.in-Ok-2.exchange.bytes; closes = c.in-Ok-2.exchange.closes } in
     let told = if_ok_is c.in_ok-exchange.field-0 _ _ c.in-Ok-2.exchange c.in-Ok-2.is c.in_ok-exchange.ensures.does in
     let is : served base c.args.moment c.args.word c.loop-incoming.number c.loop-incoming.book.history large r ≡ Ok e =
     subst (λ b. served b c.args.moment c.args.word c.loop-incoming.number c.loop-incoming.book.history large r ≡ Ok e) c.loop-incoming.invariant.base told in
     let closing = if_ok_only c.in_ok-exchange.field-0 _ c.in-Ok-2.exchange c.in-Ok-2.is c.in_ok-exchange.ensures.closes in
     record {
-      base = c.served.ensures.base ∙ c.loop-incoming.invariant.base;
+      base = c.serve.ensures.base ∙ c.loop-incoming.invariant.base;
       low = omega (arith, c.loop-incoming.invariant.low);
       high = another c.loop-incoming.number large r c.loop-incoming.invariant.high (sym closing ∙ c.if-exchange.false);
       fault = c.in-Ok.ensures.kept c.loop-incoming.invariant.fault;
-      so_far = subst (Open base c.args.moment c.args.word c.args.book.now.history c.args.bytes.now (c.loop-incoming.number + 1) c.served.new.book.history rest) (search rules)
+      so_far = subst (Open base c.args.moment c.args.word c.args.book.now.history c.args.bytes.now (c.loop-incoming.number + 1) c.serve.new.book.history rest) (search rules)
           (went_on base c.args.moment c.args.word c.args.book.now.history c.args.bytes.now c.loop-incoming.number c.loop-incoming.book.history left c.loop-incoming.written.items
           large r rest e c.loop-incoming.invariant.so_far next is c.if-exchange.false);
     }

@@ -1,0 +1,2 @@
+-- pairs that stand again behind a place, and those that do not
+pub mod Once

@@ -1,6 +1,0 @@
-use Rattle.std.proofs.Common.{◌≡◌, drop}
-use Rattle.gateway_vars.specs.Pairs.{header_value}
-use Rattle.gateway_vars.proofs.pairs.header_value.Given as goal
-
-abbrev pub invariant-loop-header : goal.invariant-loop-header
-invariant-loop-header l = header_value l.headers l.name ≡ header_value (drop l.header-index l.headers) l.name

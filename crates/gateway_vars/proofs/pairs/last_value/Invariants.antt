@@ -1,7 +1,0 @@
-use Rattle.std.proofs.Common.{◌≡◌, take}
-use Rattle.std.specs.Option.{option_map}
-use Rattle.gateway_vars.specs.Pairs.{last_value}
-use Rattle.gateway_vars.proofs.pairs.last_value.Given as goal
-
-abbrev pub invariant-loop-pair : goal.invariant-loop-pair
-invariant-loop-pair l = option_map (λ v. v.now) l.found ≡ last_value (take l.pair-index l.pairs) l.name

@@ -1,0 +1,2 @@
+-- answers, and their causes
+pub mod Answers

@@ -1,0 +1,2 @@
+-- numbers of digits, and texts that are UTF-8
+pub mod Digits

@@ -1,0 +1,32 @@
+//! Fields of a record: how they are parted, coded and read, and how they are written.
+//!
+//! ```text
+//! let fields = fields_in(alloc, b"stage 0 hello v1 1 env=a%20b")?;    // Some: six fields
+//! number(b"1024")                       // Some(1024)
+//! pairs_in(alloc, &fields[5..])?        // Some: env and `a b`
+//! field(alloc, b"a b")?                 // a%20b
+//! ```
+//!
+//! | Field | Stands for |
+//! |---|---|
+//! | `a%20b`, `%64eploy` | `a b`, `deploy` |
+//! | `~`, `%7E` | nothing; `~` |
+//! | an empty one, `a%2`, one with a tab | nothing: it has not its form |
+//! | `env=a=b`, as a pair | `env` and `a=b` |
+//! | `007`, as a number | 7 |
+//! | `18446744073709551616`, `1x`, one of 21 digits, as a number | no number of 64 bits |
+//!
+//! What the contracts promise: each answer is that of the definition of its name, in both directions (`specs/Coding.antt`,
+//! `specs/Numbers.antt`, `specs/Pairs.antt`, `specs/Writing.antt`); want of memory alone has no cause.
+#![tactic(auto)]
+
+mod coding;
+mod fields;
+mod numbers;
+mod pairs;
+mod writing;
+
+pub use fields::{fields_in, text_of};
+pub use numbers::{number, small_number};
+pub use pairs::pairs_in;
+pub use writing::{coded, field};

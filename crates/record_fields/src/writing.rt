@@ -1,0 +1,27 @@
+// How fields are written.
+ghost use Rattle.std.specs.Prelude.{◌≡◌, IfOk};
+ghost use Rattle.record_fields.specs.Writing.{coded as coded_of, field as field_of};
+
+use crate::coding::CODED;
+use gw_base::{Memory, Text};
+use percent_encoding::percent_encode;
+use std::alloc::Global;
+
+/// Bytes in a line: each outside 33 to 126, and `%`, is coded.
+pub fn coded(alloc: Global, bytes: &[u8]) -> Result<Text, Memory>
+    ensures { IfOk result (λ text. text ≡ coded_of bytes.now) }
+{
+    let mut text = String::new(alloc);
+    percent_encode(bytes, CODED).append_to(&mut text)?;
+    Ok(Text::of(text))
+}
+
+/// Bytes as a field of a line; of no bytes it is `~`.
+pub fn field(alloc: Global, bytes: &[u8]) -> Result<Text, Memory>
+    ensures { IfOk result (λ text. text ≡ field_of bytes.now) }
+{
+    match bytes {
+        [] => Ok(Text::of(String::from_str(alloc, "~")?)),
+        [_, ..] => coded(alloc, bytes),
+    }
+}

@@ -1,0 +1,28 @@
+//! Tests of the program through `run`, and of rendering through the calls below it: scripts, connections, files and definitions
+//! with the bytes that are printed and the statuses.
+//!
+//! | Module | Shows |
+//! |---|---|
+//! | `scripts` | every kind of line, pieces of any size, each read and each write failing once, a full session |
+//! | `calls` | connections with several messages, and outcomes |
+//! | `checks` | documents with the lines that `check` prints |
+//! | `renders` | the command `render`: its files, limits and faults |
+//! | `roots` | the values below the roots, as the documents show them |
+//! | `cases` | templates with their texts and steps, as they were computed apart from this program |
+//! | `templates` | texts with the faults of reading them, as another program gave them |
+#![tactic(auto)]
+
+#[cfg(test)]
+mod calls;
+#[cfg(test)]
+mod cases;
+#[cfg(test)]
+mod checks;
+#[cfg(test)]
+mod renders;
+#[cfg(test)]
+mod roots;
+#[cfg(test)]
+mod scripts;
+#[cfg(test)]
+mod templates;

@@ -1,0 +1,467 @@
+ghost use Rattle.std.specs.Prelude.{◌<◌};
+
+use book_core::{Book, Event, Limits, Reply, StepFault};
+use call_facts::Kind;
+use gateway_cli::{MemOutside, play_within, run};
+use gw_base::{MemSink, MemSource, Sink, Source, Text};
+use std::alloc::Global;
+use std::test::Fail;
+
+const HELLO: &str =
+    "text 0 hello Hi%20$input.body!\ndeploy 0 hello\nstage 0 hello v1 1\npost 0 0 hello v1 Ann\n";
+
+const HELLO_SAID: &str =
+    "done\ndeployed 1\ndone\nanswer HTTP/1.1%20200%20OK%0D%0Acontent-type:%20text/plain%0D%0Acontent-length:%207%0D%0A%0D%0AHi%20Ann!\nended Closed\n";
+
+const UNKNOWN_STAGE: &str =
+    "answer HTTP/1.1%20403%20Forbidden%0D%0Acontent-type:%20application/json%0D%0Ax-gateway-cause:%20UNKNOWN_STAGE%0D%0Acontent-length:%2027%0D%0A%0D%0A{\"message\":\"Unknown%20stage\"}\nended Closed\n";
+
+fn words(alloc: Global, word: &str) -> Result<Vec<Text>, Fail> {
+    let mut words = Vec::new(alloc);
+    words.push(Text::of(String::from_str(alloc, word)?))?;
+    Ok(words)
+}
+
+fn no_files(alloc: Global) -> MemOutside {
+    MemOutside::new(Vec::new(alloc), Vec::new(alloc))
+}
+
+fn source(alloc: Global, script: &str, step: usize, fails: &[u32]) -> Result<MemSource, Fail>
+    requires { 0 < step }
+{
+    let bytes = Vec::from_slice(alloc, script.as_bytes())?;
+    Ok(MemSource::new(bytes, step, Vec::from_slice(alloc, fails)?))
+}
+
+#[derive(Clone, Copy)]
+struct Row {
+    script: &'static str,
+    said: &'static str,
+    status: u8,
+}
+
+const ROWS: [Row; 15] = [
+    Row {
+        script: "",
+        said: "",
+        status: 0,
+    },
+    Row {
+        script: "# a remark\n\n#\n",
+        said: "",
+        status: 0,
+    },
+    Row {
+        script: "deploy 0 nope",
+        said: "refused NoApi\n",
+        status: 0,
+    },
+    Row {
+        script: "key 0 k v on\n",
+        said: "refused line 1 NotBuilt at ~\n",
+        status: 1,
+    },
+    Row {
+        script: "text 0 t $x\n",
+        said: "done\n",
+        status: 0,
+    },
+    Row {
+        script: "text 0 t $context.stage\n",
+        said: "done\n",
+        status: 0,
+    },
+    Row {
+        script: "text 0 t ${input.body\n",
+        said: "refused line 1 Unclosed(0) at /text\n",
+        status: 1,
+    },
+    Row {
+        script: "text 0 t #macro(m)x#end\n",
+        said: "done\n",
+        status: 0,
+    },
+    Row {
+        script: "bogus 1\n",
+        said: "refused line 1 BadRecord at ~\n",
+        status: 1,
+    },
+    Row {
+        script: "\ndeploy 0 a\ndeploy 0\ndeploy 0 a\n",
+        said: "refused NoApi\nrefused line 3 BadRecord at ~\n",
+        status: 1,
+    },
+    Row {
+        script: "text 0 a.b x\ntext 0 a x\nstage 0 a s 1\n%64eploy 0 a\nstage 0 a s 2\nstage 0 - s 1\n",
+        said: "refused BadName\ndone\nrefused NoDeployment\ndeployed 1\nrefused NoDeployment\nrefused BadName\n",
+        status: 0,
+    },
+    Row {
+        script: "text 0 a x\ndeploy 0 a\nstage 0 a s 1 x=y z= x==y\nstage 0 a s 1 =y\nstage 0 a s 1 x=%FF\n",
+        said: "done\ndeployed 1\ndone\nrefused BadName\nrefused line 5 BadRecord at ~\n",
+        status: 1,
+    },
+    Row {
+        script: "stage 0 a s 1 xy\n",
+        said: "refused line 1 BadRecord at ~\n",
+        status: 1,
+    },
+    Row {
+        script: "deploy 18446744073709551615 a\ndeploy 18446744073709551616 a\n",
+        said: "refused NoApi\nrefused line 2 BadRecord at ~\n",
+        status: 1,
+    },
+    Row {
+        script: "deploy 0 %FF\n",
+        said: "refused line 1 BadRecord at ~\n",
+        status: 1,
+    },
+];
+
+#[test]
+fn scripts_are_played(rt: HostRuntime) -> Result<(), Fail> {
+    let alloc = rt.alloc();
+    let play = words(alloc, "play")?;
+    for row in &ROWS {
+        let mut input = source(alloc, row.script, 4096, &[])?;
+        let mut output = MemSink::new(alloc, Vec::new(alloc));
+        assert_eq!(rt;
+            run(alloc, &play, &mut input, &mut output, &mut no_files(alloc)),
+            row.status,
+            "at {}",
+            row.script
+        );
+        assert_eq!(rt; output.bytes(), row.said.as_bytes(), "at {}", row.script);
+    }
+    Ok(())
+}
+
+#[test]
+fn the_hello_script_is_played_in_pieces(rt: HostRuntime) -> Result<(), Fail> {
+    let alloc = rt.alloc();
+    let play = words(alloc, "play")?;
+    for step in [1, 2, 7, 4096] {
+        let mut input = source(alloc, HELLO, step, &[])?;
+        let mut output = MemSink::new(alloc, Vec::new(alloc));
+        assert_eq!(rt;
+            run(alloc, &play, &mut input, &mut output, &mut no_files(alloc)),
+            0
+        );
+        assert_eq!(rt; output.bytes(), HELLO_SAID.as_bytes());
+    }
+    Ok(())
+}
+
+#[test]
+fn an_unknown_stage_is_told(rt: HostRuntime) -> Result<(), Fail> {
+    let alloc = rt.alloc();
+    let mut script = String::from_str(alloc, HELLO)?;
+    script.push_str("post 0 0 hello v2 Ann\n")?;
+    let mut said = String::from_str(alloc, HELLO_SAID)?;
+    said.push_str(UNKNOWN_STAGE)?;
+    let mut input = source(alloc, script.as_str(), 4096, &[])?;
+    let mut output = MemSink::new(alloc, Vec::new(alloc));
+    assert_eq!(rt;
+        run(
+            alloc,
+            &words(alloc, "play")?,
+            &mut input,
+            &mut output,
+            &mut no_files(alloc)
+        ),
+        0
+    );
+    assert_eq!(rt; output.bytes(), said.as_bytes());
+    Ok(())
+}
+
+// The example of the refusals, `examples/refusals.script`.
+#[test]
+fn the_example_of_refusals_is_played(rt: HostRuntime) -> Result<(), Fail> {
+    let alloc = rt.alloc();
+    let script =
+        "# What a script may print: replies, refusals and answers of the gateway itself.\ndeploy 0 nope\ntext 0 bad.name x\ntext 0 greet Dear%20${input.body},%20good%20morning.\nstage 0 greet v1 1\ndeploy 0 greet\nstage 0 greet v1 1\npost 0 0 greet v1 Ann\npost 0 0 greet v2 Ann\n";
+    let mut said = String::from_str(
+        alloc,
+        "refused NoApi\nrefused BadName\ndone\nrefused NoDeployment\ndeployed 1\ndone\nanswer HTTP/1.1%20200%20OK%0D%0Acontent-type:%20text/plain%0D%0Acontent-length:%2023%0D%0A%0D%0ADear%20Ann,%20good%20morning.\nended Closed\n",
+    )?;
+    said.push_str(UNKNOWN_STAGE)?;
+    let mut input = source(alloc, script, 4096, &[])?;
+    let mut output = MemSink::new(alloc, Vec::new(alloc));
+    assert_eq!(rt;
+        run(
+            alloc,
+            &words(alloc, "play")?,
+            &mut input,
+            &mut output,
+            &mut no_files(alloc)
+        ),
+        0
+    );
+    assert_eq!(rt; output.bytes(), said.as_bytes());
+    Ok(())
+}
+
+#[test]
+fn words_of_no_command_are_told(rt: HostRuntime) -> Result<(), Fail> {
+    let alloc = rt.alloc();
+    let mut input = source(alloc, HELLO, 4096, &[])?;
+    let mut output = MemSink::new(alloc, Vec::new(alloc));
+    assert_eq!(rt;
+        run(
+            alloc,
+            &words(alloc, "sing")?,
+            &mut input,
+            &mut output,
+            &mut no_files(alloc)
+        ),
+        2
+    );
+    assert_eq!(rt;
+        run(
+            alloc,
+            &Vec::new(alloc),
+            &mut input,
+            &mut output,
+            &mut no_files(alloc)
+        ),
+        2
+    );
+    assert_eq!(rt; output.bytes(), b"usage\nusage\n".as_slice());
+    Ok(())
+}
+
+#[test]
+fn each_read_and_each_write_fails_once(rt: HostRuntime) -> Result<(), Fail> {
+    let alloc = rt.alloc();
+    let play = words(alloc, "play")?;
+    for call in 0..3 {
+        let mut input = source(alloc, HELLO, 60, &[call])?;
+        let mut output = MemSink::new(alloc, Vec::new(alloc));
+        assert_eq!(rt;
+            run(alloc, &play, &mut input, &mut output, &mut no_files(alloc)),
+            3
+        );
+        assert_eq!(rt; output.bytes(), b"fault input\n".as_slice());
+    }
+    let fronts = [
+        "",
+        "done\n",
+        "done\ndeployed 1\n",
+        "done\ndeployed 1\ndone\n",
+    ];
+    for (call, front) in fronts.iter().enumerate() {
+        let mut input = source(alloc, HELLO, 4096, &[])?;
+        let fails = Vec::from_slice(alloc, &[call as u32])?;
+        let mut output = MemSink::new(alloc, fails);
+        assert_eq!(rt;
+            run(alloc, &play, &mut input, &mut output, &mut no_files(alloc)),
+            3
+        );
+        let mut said = String::from_str(alloc, front)?;
+        said.push_str("fault output\n")?;
+        assert_eq!(rt; output.bytes(), said.as_bytes());
+    }
+    Ok(())
+}
+
+#[test]
+fn a_full_session_is_told(rt: HostRuntime) -> Result<(), Fail> {
+    let alloc = rt.alloc();
+    let busy =
+        "answer HTTP/1.1%20503%20Service%20Unavailable%0D%0Aconnection:%20close%0D%0Acontent-length:%200%0D%0A%0D%0A\n";
+    // The three commands make three entries of 5 + 15, 5 and 7 bytes; Enter makes one of 7.
+    let rows = [
+        (2, "done\ndeployed 1\nfull 2 25\n", ""),
+        (
+            3,
+            "done\ndeployed 1\ndone\n",
+            "ended SessionFull(3,32)\nfull 3 32\n",
+        ),
+        (
+            4,
+            "done\ndeployed 1\ndone\n",
+            "ended SessionFull(4,39)\nfull 4 39\n",
+        ),
+    ];
+    for (entries, front, end) in rows {
+        let limits = Limits {
+            entries,
+            bytes: 1000,
+        };
+        let mut output = MemSink::new(alloc, Vec::new(alloc));
+        assert_eq!(rt;
+            play_within(alloc, limits, HELLO.as_bytes(), &mut output),
+            Ok(4)
+        );
+        let mut said = String::from_str(alloc, front)?;
+        if !end.is_empty() {
+            said.push_str(busy)?;
+            said.push_str(end)?;
+        }
+        assert_eq!(rt; output.bytes(), said.as_bytes(), "at {entries}");
+    }
+    Ok(())
+}
+
+/// A template, coded for a script, with the fields of its stage behind the deployment, what is posted, and the answer's
+/// last field and its body, coded.
+const CALLS: [(&str, &str, &str, &str); 7] = [
+    (
+        "#foreach($i%20in%20[1..3])$i$input.body#end",
+        "",
+        "x",
+        "6%0D%0A%0D%0A1x2x3x",
+    ),
+    (
+        "$stageVariables.env/$context.requestId",
+        " env=x",
+        "b",
+        "18%0D%0A%0D%0Ax/0000000000000003",
+    ),
+    (
+        "$stageVariables.a$!stageVariables.b$stageVariables.c",
+        " a=1 a=2 c=",
+        "b",
+        "1%0D%0A%0D%0A2",
+    ),
+    (
+        "$context.apiId.$context.stage.$context.deploymentId.$context.httpMethod.$context.path",
+        "",
+        "b",
+        "13%0D%0A%0D%0Aa.s.1.POST./s",
+    ),
+    (
+        "$input.params('host'),$input.params('content-length')",
+        "",
+        "abc",
+        "11%0D%0A%0D%0Alocalhost,3",
+    ),
+    (
+        "$input.json('$.a')|$input.json('$.b')",
+        "",
+        "{\"a\":%20[1,%202.50]}",
+        "11%0D%0A%0D%0A[1,2.50]|\"\"",
+    ),
+    (
+        "#set($context.requestOverride.header.a=1)$!context.requestOverride.header.a",
+        "",
+        "b",
+        "0%0D%0A%0D%0A",
+    ),
+];
+
+// A template sees the request, the call and the variables of the stage.
+#[test]
+fn a_call_is_rendered_over_its_request(rt: HostRuntime) -> Result<(), Fail> {
+    let alloc = rt.alloc();
+    for (template, variables, body, answered) in &CALLS {
+        let script = format!(in alloc;
+            "text 0 a {template}\ndeploy 0 a\nstage 0 a s 1{variables}\npost 7 0 a s {body}\n"
+        )?;
+        let said = format!(in alloc;
+            "done\ndeployed 1\ndone\nanswer HTTP/1.1%20200%20OK%0D%0Acontent-type:%20text/plain%0D%0Acontent-length:%20{answered}\nended Closed\n"
+        )?;
+        let mut input = source(alloc, script.as_str(), 4096, &[])?;
+        let mut output = MemSink::new(alloc, Vec::new(alloc));
+        assert_eq!(rt;
+            run(
+                alloc,
+                &words(alloc, "play")?,
+                &mut input,
+                &mut output,
+                &mut no_files(alloc)
+            ),
+            0
+        );
+        assert_eq!(rt; output.bytes(), said.as_bytes(), "at {template}");
+    }
+    Ok(())
+}
+
+// A body of a megabyte, named eleven times, passes the most bytes of a text.
+#[test]
+fn a_stopped_render_is_told(rt: HostRuntime) -> Result<(), Fail> {
+    let alloc = rt.alloc();
+    let mut script = String::from_str(alloc, "text 0 a ")?;
+    for _ in 0..11 {
+        script.push_str("${input.body}")?;
+    }
+    script.push_str("\ndeploy 0 a\nstage 0 a s 1\npost 0 0 a s ")?;
+    for _ in 0..1_000_000 {
+        script.push_str("x")?;
+    }
+    let mut input = source(alloc, script.as_str(), 1_000_000, &[])?;
+    let mut output = MemSink::new(alloc, Vec::new(alloc));
+    assert_eq!(rt;
+        run(
+            alloc,
+            &words(alloc, "play")?,
+            &mut input,
+            &mut output,
+            &mut no_files(alloc)
+        ),
+        0
+    );
+    let said =
+        "done\ndeployed 1\ndone\nanswer HTTP/1.1%20500%20Internal%20Server%20Error%0D%0Acontent-type:%20application/json%0D%0Ax-gateway-cause:%20API_CONFIGURATION_ERROR%0D%0Acontent-length:%2035%0D%0A%0D%0A{\"message\":\"Internal%20server%20error\"}\nended Closed\n";
+    assert_eq!(rt; output.bytes(), said.as_bytes());
+    Ok(())
+}
+
+// A fault that was counted before the call is not told.
+#[test]
+fn an_old_fault_is_not_told(rt: HostRuntime) -> Result<(), Fail> {
+    let alloc = rt.alloc();
+    let mut input = source(alloc, HELLO, 4096, &[0])?;
+    let mut output = MemSink::new(alloc, Vec::from_slice(alloc, &[0])?);
+    assert!(rt; input.read(&mut [0; 1]).is_err());
+    assert!(rt; output.write(b"x").is_err());
+    assert_eq!(rt;
+        run(
+            alloc,
+            &words(alloc, "play")?,
+            &mut input,
+            &mut output,
+            &mut no_files(alloc)
+        ),
+        0
+    );
+    assert_eq!(rt; output.bytes(), HELLO_SAID.as_bytes());
+    Ok(())
+}
+
+// With room for one entry, Enter is taken, and Leave is refused with the history's numbers.
+#[test]
+fn a_book_of_one_entry_is_full(rt: HostRuntime) -> Result<(), Fail> {
+    let alloc = rt.alloc();
+    let limits = Limits {
+        entries: 1,
+        bytes: 1000,
+    };
+    let mut book = Book::start(alloc, limits)?;
+    let enter = Event::Enter {
+        moment: 0,
+        word: 0,
+        api: Text::of(String::from_str(alloc, "hello")?),
+        stage: Text::of(String::from_str(alloc, "v1")?),
+    };
+    let entered = book.step(alloc, 0, enter);
+    assert!(rt; matches!(&entered, Ok(Reply::NoStage)));
+    let leave = Event::Leave {
+        status: 403,
+        cause: Some(Kind::UnknownStage),
+    };
+    let full = StepFault::SessionFull {
+        entries: 1,
+        bytes: 7,
+    };
+    match book.step(alloc, 0, leave) {
+        Err(fault) => assert_eq!(rt; fault, full),
+        Ok(_) => assert!(rt; false, "the book took a second entry"),
+    }
+    let (tables, history) = book.close();
+    assert_eq!(rt; tables.stages().len(), 0);
+    assert_eq!(rt; history.len(), 1);
+    Ok(())
+}

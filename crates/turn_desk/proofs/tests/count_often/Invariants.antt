@@ -1,5 +1,0 @@
-use Rattle.turn_desk.specs.Calls.{IsSameSeat}
-use Rattle.turn_desk.proofs.tests.count_often.Given as goal
-
-abbrev pub invariant-loop : goal.invariant-loop
-invariant-loop g l = IsSameSeat l.fn.seat l.seat

@@ -46,6 +46,7 @@ mod turn;
 pub use doc::{Doc, Kind, NodeId};
 pub use fault::JsonFault;
 pub use json::Json;
+pub use number::{NumberParts, signed_whole};
 
 #[cfg(test)]
 mod tests;

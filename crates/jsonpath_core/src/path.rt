@@ -1,12 +1,11 @@
 ghost use Rattle.std.specs.Prelude.{◌≡◌, ◌∷◌, [], ℕ, List, All, map, IfOk, IfSome, IsErrOf, MatchOption, MatchResult, false};
-ghost use Rattle.json_subset.specs.Documents.{IsPart, part, root_tree};
+ghost use Rattle.json_subset.specs.Documents.{IsPart, IsWithin, part, root_tree};
 ghost use Rattle.jsonpath_core.specs.Faults.{IsBadAt};
 ghost use Rattle.jsonpath_core.specs.Reading.{path_of};
 ghost use Rattle.jsonpath_core.specs.Selecting.{select};
 ghost use Rattle.jsonpath_core.specs.Spelling.{IsPath};
 ghost use Rattle.jsonpath_core.specs.Steps.{Step as StepOf, starred as starred_of};
 ghost use Rattle.jsonpath_core.specs.Views.{Gives};
-ghost use Rattle.jsonpath_core.specs.Within.{IsWithin};
 
 use crate::fault::PathFault;
 use crate::reader::read_path;

@@ -77,6 +77,3 @@ pub use roots::{RequestRoots, ResponseRoots};
 pub use slots::{Part, Side, slot_of};
 pub use target::{api_name, query_pairs, stage_name, stage_path};
 pub use util::util_value;
-
-#[cfg(test)]
-mod tests;

@@ -47,6 +47,3 @@ pub use doc::{Doc, Kind, NodeId};
 pub use fault::JsonFault;
 pub use json::Json;
 pub use number::{NumberParts, signed_whole};
-
-#[cfg(test)]
-mod tests;

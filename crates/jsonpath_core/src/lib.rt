@@ -52,6 +52,3 @@ mod step;
 
 pub use fault::PathFault;
 pub use path::Path;
-
-#[cfg(test)]
-mod tests;

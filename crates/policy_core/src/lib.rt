@@ -59,6 +59,3 @@ pub use decision::decide;
 pub use fault::PolicyFault;
 pub use policy::{Decision, Policy, Statement};
 pub use reply::{AuthReply, LIMIT};
-
-#[cfg(test)]
-mod tests;

@@ -46,6 +46,3 @@ pub use fault::SchemaFault;
 pub use schema::Schema;
 pub use schema_keywords::{Keyword, TypeName};
 pub use schema_rules::Verdict;
-
-#[cfg(test)]
-mod tests;

@@ -46,8 +46,6 @@ mod rendering;
 mod roots;
 mod run;
 mod stop;
-#[cfg(test)]
-mod tests;
 
 pub use rendering::render;
 pub use roots::{Root, Roots, Step};

@@ -41,6 +41,3 @@ mod names;
 mod texts;
 
 pub use calls::call;
-
-#[cfg(test)]
-mod tests;

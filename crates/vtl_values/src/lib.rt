@@ -59,6 +59,3 @@ pub use parts::{
 pub use printing::print;
 pub use value::Value;
 pub use view::View;
-
-#[cfg(test)]
-mod tests;

@@ -1,8 +1,10 @@
-use crate::{Overrides, RequestRoots, ResponseRoots};
+// Templates over the values of a call.
 use call_facts::{CallFacts, Claims, Kind, Refusal, Request, Vars, WireReply};
+use gateway_vars::{Overrides, RequestRoots, ResponseRoots};
 use gw_base::{Bytes, Memory, Name, Seq, Shared, Text};
 use resource_tree::Found;
 use std::alloc::Global;
+use std::test::Fail;
 use vtl_eval::{Roots, render};
 use vtl_reader::Template;
 
@@ -103,70 +105,72 @@ fn printed<R: Roots>(alloc: Global, template: &str, roots: &mut R) -> Result<Tex
     }
 }
 
+const PRINTED: [(&str, &str); 18] = [
+    (
+        "$input.json('$.a')|$input.json('$.b')",
+        "[1,2.50,\"é\"]|\"\"",
+    ),
+    ("$input.json('$.a[*]')", "[1,2.50,\"é\"]"),
+    ("$input.path('$.a[1]')|$!input.path('$.b')|", "2.50||"),
+    ("$input.path('$.*')", "[[1, 2.50, é]]"),
+    ("$input.body", BODY),
+    (
+        "$input.params('path')|$input.params('x')|$input.params('X-a')|$input.params('n')|",
+        "q|1|one||",
+    ),
+    (
+        "$input.params()",
+        "{path={path=q}, querystring={x=1, y=a b, path=no}, header={x-a=one, user-agent=t}}",
+    ),
+    (
+        "$util.escapeJavaScript(\"it's\").replaceAll(\"\\\\'\",\"'\")",
+        "it's",
+    ),
+    ("$util.escapeJavaScript('é😀/')", "\\u00E9\\uD83D\\uDE00\\/"),
+    (
+        "$util.urlEncode('a b/é')|$util.urlDecode('a+b%2F')",
+        "a+b%2F%C3%A9|a b/",
+    ),
+    (
+        "$util.base64Encode('ab')|$util.base64Decode('YWI=')|$!util.base64Decode('YWI')|",
+        "YWI=|ab||",
+    ),
+    ("$util.parseJson('{\"k\":[true,null]}').k", "[true, null]"),
+    (
+        "$stageVariables.env/$context.requestId",
+        "x/0000000000000003",
+    ),
+    ("$stageVariables['env']$!stageVariables.none|", "x|"),
+    (
+        "$context.apiId $context.stage $context.httpMethod $context.path $context.resourcePath",
+        "t v1 POST /v1/p/q /p/{path}",
+    ),
+    (
+        "$context.deploymentId $context.isCanaryRequest $context.requestTimeEpoch",
+        "12 false 1700000000000",
+    ),
+    (
+        "$context.identity.sourceIp $context.identity.userAgent $!context.identity.apiKeyId|",
+        "127.0.0.1 t |",
+    ),
+    (
+        "$!context.authorizer.principalId$!context.error.message|",
+        "|",
+    ),
+];
+
 #[test]
-fn a_request_template_has_the_values_of_the_table(rt: HostRuntime) {
-    let rows = [
-        (
-            "$input.json('$.a')|$input.json('$.b')",
-            "[1,2.50,\"é\"]|\"\"",
-        ),
-        ("$input.json('$.a[*]')", "[1,2.50,\"é\"]"),
-        ("$input.path('$.a[1]')|$!input.path('$.b')|", "2.50||"),
-        ("$input.path('$.*')", "[[1, 2.50, é]]"),
-        ("$input.body", BODY),
-        (
-            "$input.params('path')|$input.params('x')|$input.params('X-a')|$input.params('n')|",
-            "q|1|one||",
-        ),
-        (
-            "$input.params()",
-            "{path={path=q}, querystring={x=1, y=a b, path=no}, header={x-a=one, user-agent=t}}",
-        ),
-        (
-            "$util.escapeJavaScript(\"it's\").replaceAll(\"\\\\'\",\"'\")",
-            "it's",
-        ),
-        ("$util.escapeJavaScript('é😀/')", "\\u00E9\\uD83D\\uDE00\\/"),
-        (
-            "$util.urlEncode('a b/é')|$util.urlDecode('a+b%2F')",
-            "a+b%2F%C3%A9|a b/",
-        ),
-        (
-            "$util.base64Encode('ab')|$util.base64Decode('YWI=')|$!util.base64Decode('YWI')|",
-            "YWI=|ab||",
-        ),
-        ("$util.parseJson('{\"k\":[true,null]}').k", "[true, null]"),
-        (
-            "$stageVariables.env/$context.requestId",
-            "x/0000000000000003",
-        ),
-        ("$stageVariables['env']$!stageVariables.none|", "x|"),
-        (
-            "$context.apiId $context.stage $context.httpMethod $context.path $context.resourcePath",
-            "t v1 POST /v1/p/q /p/{path}",
-        ),
-        (
-            "$context.deploymentId $context.isCanaryRequest $context.requestTimeEpoch",
-            "12 false 1700000000000",
-        ),
-        (
-            "$context.identity.sourceIp $context.identity.userAgent $!context.identity.apiKeyId|",
-            "127.0.0.1 t |",
-        ),
-        (
-            "$!context.authorizer.principalId$!context.error.message|",
-            "|",
-        ),
-    ];
+fn a_request_template_has_the_values_of_the_table(rt: HostRuntime) -> Result<(), Fail> {
     let alloc = rt.alloc();
-    let request = request(alloc).expect(&rt, "memory");
-    let found = found(alloc).expect(&rt, "memory");
-    let facts = facts(alloc).expect(&rt, "memory");
-    for (template, prints) in rows.iter() {
-        let mut roots = asked(alloc, &request, &found, &facts).expect(&rt, "memory");
-        let made = printed(alloc, template, &mut roots).expect(&rt, "rendering");
-        assert_eq!(rt; made.as_str(), *prints);
+    let request = request(alloc)?;
+    let found = found(alloc)?;
+    let facts = facts(alloc)?;
+    for (template, prints) in &PRINTED {
+        let mut roots = asked(alloc, &request, &found, &facts)?;
+        let made = printed(alloc, template, &mut roots)?;
+        assert_eq!(rt; made.as_str(), *prints, "at {template}");
     }
+    Ok(())
 }
 
 fn header_of(changes: &Overrides, i: usize) -> (&str, &str) {

@@ -73,6 +73,3 @@ pub use payload::Payload;
 pub use roots::{RequestRoots, ResponseRoots};
 pub use slots::{Part, Side, slot_of};
 pub use util::util_value;
-
-#[cfg(test)]
-mod tests;

@@ -36,5 +36,12 @@ abbrev pub kind_by : Bool → List ℕ → List ℕ → Number
 kind_by negative ds [] = whole_or_wide negative (value_from 0 ds)
 kind_by negative ds (b ∷ bs) = if (b == 46) && not (has_exponent bs) && nat_le (length ds) 18 then decimal else wide
 
+-- the digits of the whole part, without the sign, and what follows these
+abbrev pub whole_digits : List ℕ → List ℕ
+whole_digits source = take (digits_len (unsigned source)) (unsigned source)
+
+abbrev pub behind_digits : List ℕ → List ℕ
+behind_digits source = drop (digits_len (unsigned source)) (unsigned source)
+
 abbrev pub number_of : List ℕ → Number
-number_of source = kind_by (is_negative source) (take (digits_len (unsigned source)) (unsigned source)) (drop (digits_len (unsigned source)) (unsigned source))
+number_of source = kind_by (is_negative source) (whole_digits source) (behind_digits source)

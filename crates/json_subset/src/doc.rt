@@ -141,7 +141,7 @@ impl Doc {
         }
     }
 
-    /// The value of the first member of this name; linear in the members of the object.
+    /// The value of the first member of this name.
     pub fn member(&self, id: NodeId, name: &str) -> Option<NodeId>
         requires { IsPart self.now id }
         ensures { MatchOption result (member_named (form (part self.now id)) name.now ≡ None) (λ k. IsPart self.now k × (member_named (form (part self.now id)) name.now ≡ Some (part self.now k))) }
@@ -153,7 +153,7 @@ impl Doc {
     }
 
     /// The source text of this part without the white space outside strings, which spells the same
-    /// tree but for places; linear in that text.
+    /// tree but for places.
     pub fn compact(&self, alloc: Global, id: NodeId) -> Result<String, Memory>
         requires { IsPart self.now id }
         ensures text { IfOk result (λ s. string_bytes s ≡ compacted (span_of self.now.text (part self.now id))) }

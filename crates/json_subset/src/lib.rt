@@ -46,6 +46,4 @@ mod turn;
 pub use doc::{Doc, Kind, NodeId};
 pub use fault::JsonFault;
 pub use json::Json;
-
-#[cfg(test)]
-mod tests;
+pub use number::{NumberParts, signed_whole};

@@ -1,11 +1,10 @@
 -- How large a number is, as far as a whole bound can tell.
-use Rattle.std.specs.Prelude.{ℕ, ℤ, Bool, true, false, not, List, [], ◌∷◌, take, drop, nat_lt, if◌then◌else◌}
+use Rattle.std.specs.Prelude.{ℕ, ℤ, Bool, true, false, not, List, [], ◌∷◌, nat_lt, if◌then◌else◌}
 use Rattle.std.specs.Ordering.{int_cmp}
 use Rattle.std.specs.declared.cmp.Ordering.{Ordering}
 use Rattle.std.specs.declared.cmp.Ordering.TheVariants.{Less, Equal, Greater}
 use Rattle.json_subset.specs.Tree as tree
-use Rattle.json_subset.specs.Scan.{unsigned}
-use Rattle.json_subset.specs.Numbers.{is_negative, digits_len, value_from, whole_or_wide}
+use Rattle.json_subset.specs.Numbers.{is_negative, value_from, whole_or_wide, whole_digits, behind_digits}
 use Rattle.json_values.specs.declared.amount.Amount.{Amount}
 use Rattle.json_values.specs.declared.amount.Amount.TheVariants.{At, Above, Below, Unknown}
 
@@ -20,16 +19,9 @@ beside negative fraction (tree.whole z) = if fraction then (if negative then Bel
 beside negative fraction tree.decimal = Unknown
 beside negative fraction tree.wide = Unknown
 
--- the bytes in front of the fraction's point, without the sign, and those behind it
-abbrev pub whole_digits : List ℕ → List ℕ
-whole_digits s = take (digits_len (unsigned s)) (unsigned s)
-
-abbrev pub fraction_digits : List ℕ → List ℕ
-fraction_digits s = drop (digits_len (unsigned s)) (unsigned s)
-
 -- a number with a fraction and no exponent, by its source
 abbrev pub decimal_amount : List ℕ → Amount
-decimal_amount s = beside (is_negative s) (some_digit (fraction_digits s)) (whole_or_wide (is_negative s) (value_from 0 (whole_digits s)))
+decimal_amount s = beside (is_negative s) (some_digit (behind_digits s)) (whole_or_wide (is_negative s) (value_from 0 (whole_digits s)))
 
 -- a number by its kind and its source
 abbrev pub amount : tree.Number → List ℕ → Amount

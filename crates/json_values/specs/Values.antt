@@ -3,7 +3,7 @@ use Rattle.std.specs.Prelude.{◌≡◌, ◌<◌, ◌≤◌, ℕ, zero, suc, Lis
 use Rattle.std.specs.BTreeMap.{BTreeMap, get_by_text}
 use Rattle.std.specs.String.{string_bytes}
 use Rattle.std.specs.declared.alloc.Global.{Global}
-use Rattle.json_subset.specs.Tree.{Tree, node, Form, null, bool, number, text, list, object, Trees, no_trees, tree, Members, no_members, member, trees_of, members_of, whole, decimal, wide}
+use Rattle.json_subset.specs.Tree.{Tree, node, Form, null, bool, number, text, list, object, trees_of, members_of, whole, decimal, wide}
 use Rattle.json_subset.specs.Tree as spec
 use Rattle.json_subset.specs.Nodes.{member_at, AllBelow, AllValuesBelow}
 use Rattle.json_subset.specs.Documents.{Document, part, IsPart, form}
@@ -80,27 +80,6 @@ plain_within (suc d) vs k = there (plain_within d vs) (slice_get vs k)
 
 abbrev pub plain_of : List Value → ℕ → Tree
 plain_of vs k = plain_within (suc k) vs k
-
--- a tree without its places
-abbrev mutual
-  pub plain : Tree → Tree
-  plain (node first past f) = node 0 0 (plain_form f)
-
-  pub plain_form : Form → Form
-  plain_form null = null
-  plain_form (bool b) = bool b
-  plain_form (number x s) = number x s
-  plain_form (text t) = text t
-  plain_form (list ts) = list (plain_trees ts)
-  plain_form (object ms) = object (plain_members ms)
-
-  pub plain_trees : Trees → Trees
-  plain_trees no_trees = no_trees
-  plain_trees (tree t ts) = tree (plain t) (plain_trees ts)
-
-  pub plain_members : Members → Members
-  plain_members no_members = no_members
-  plain_members (member x t ms) = member x (plain t) (plain_members ms)
 
 -- the part of the document that a value was read from
 abbrev pub read_from : Document → Option Value → Tree

@@ -42,7 +42,7 @@ fn same_number(a: Number, s: &str, b: Number, t: &str) -> bool
     }
 }
 
-/// Whether two values are the same: linear in the smaller, but for the look-up of names.
+/// Whether two values are the same.
 #[cycle(same)]
 pub fn same_value(a: &[Value], i: usize, b: &[Value], j: usize) -> bool
     requires sound_a { AreSound a.now }

@@ -114,8 +114,7 @@ pub fn push_member(
     Ok(())
 }
 
-/// The values of this part of the document, its own behind those of its parts. Linear in the source text, but for the
-/// order of names; the recursion is as deep as the value.
+/// The values of this part of the document, its own behind those of its parts.
 #[cycle(reading)]
 pub fn read_part(
     alloc: Global,

@@ -1,14 +1,12 @@
 -- The nodes that a path selects are parts of the tree.
-use Rattle.std.proofs.Common.{◌≡◌, ℕ, zero, suc, ◌<◌, Bool, true, false, if◌then◌else◌, List, [], ◌∷◌, ◌++◌, length, map, get_or, Option, Some, None, Result, Ok, Err, refl, ap, ◌∙◌, sym, subst, arith, option_to_list}
+use Rattle.std.proofs.Common.{◌≡◌, ℕ, zero, suc, ◌<◌, List, [], ◌∷◌, ◌++◌, length, map, get_or, Option, Some, None, Result, Ok, Err, refl, ap, ◌∙◌, sym, subst, arith, option_to_list}
 use Rattle.std.specs.List.{AllByRecursion}
 use Rattle.std.specs.Prelude.{All, IfOk, IfSome, MatchOption, Vec}
 use Rattle.std.specs.declared.alloc.Global.{Global}
-use Rattle.std.specs.Str.{bytes_eq}
 use Rattle.json_subset.specs.Tree.{Tree, node, Form, null, bool, number, text, list, object, Trees, no_trees, tree, Members, no_members, member}
-use Rattle.json_subset.specs.Documents.{form, item_at, entry_at, tree_at, pair_at, first_named, Document, IsPart, part, root_tree}
+use Rattle.json_subset.specs.Documents.{form, item_at, entry_at, tree_at, pair_at, first_named, member_named, Document, IsPart, part, root_tree, IsWithin, itself, item_within, entry_within, member_within}
 use Rattle.jsonpath_core.specs.Steps.{Step, name, index, star}
 use Rattle.jsonpath_core.specs.Selecting.{items, values, selected, selected_of_each, select_from, select}
-use Rattle.jsonpath_core.specs.Within.{IsWithin, itself, item_within, entry_within}
 
 -- nodes within this one
 abbrev pub AreWithin : Tree → List Tree → Type 0
@@ -30,15 +28,6 @@ each_value : (root : Tree) (ms : Members) → ((i : ℕ) (x : List ℕ) (u : Tre
 each_value root no_members h = tt
 each_value root (member x t ms) h = (h 0 x t refl, each_value root ms (λ i. h (suc i)))
 
--- where the first member of a name stands
-named_at : (ms : Members) (q : List ℕ) (u : Tree) → first_named ms q ≡ Some u → (i : ℕ) × (x : List ℕ) × (pair_at ms i ≡ Some (x, u))
-named_at no_members q u e = absurd (cc)
-named_at (member x t ms) q u e = by_test (bytes_eq x q) e (named_at ms q u)
-  where
-    by_test : (b : Bool) → (if b then Some t else first_named ms q) ≡ Some u → (first_named ms q ≡ Some u → (i : ℕ) × (y : List ℕ) × (pair_at ms i ≡ Some (y, u))) → (i : ℕ) × (y : List ℕ) × (pair_at (member x t ms) i ≡ Some (y, u))
-    by_test true e ih = let same : t ≡ u = cc in (0, x, ap (λ v. Some (x, v)) same)
-    by_test false e ih = let later = ih e in (suc later.0, later.1, later.2)
-
 -- what a step selects of a part are parts
 by_form : (s : Step) (root t : Tree) (f : Form) → form t ≡ f → IsWithin t root → AreWithin root (selected s (node 0 0 f))
 by_form (name q) root t null e w = tt
@@ -46,7 +35,7 @@ by_form (name q) root t (bool b) e w = tt
 by_form (name q) root t (number k s) e w = tt
 by_form (name q) root t (text x) e w = tt
 by_form (name q) root t (list ts) e w = tt
-by_form (name q) root t (object ms) e w = maybe_within root (first_named ms q) (λ u h. let at = named_at ms q u h in entry_within u t root at.0 at.1 w (ap (λ f. entry_at f at.0) e ∙ at.2))
+by_form (name q) root t (object ms) e w = maybe_within root (first_named ms q) (λ u h. member_within u t root q w (ap (λ f. member_named f q) e ∙ h))
 by_form (index i) root t null e w = tt
 by_form (index i) root t (bool b) e w = tt
 by_form (index i) root t (number k s) e w = tt

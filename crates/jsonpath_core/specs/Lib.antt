@@ -10,8 +10,6 @@ pub mod Reading
 pub mod Selecting
 -- the order of nodes in a document
 pub mod Order
--- the parts of a tree
-pub mod Within
 -- what the program's steps and answers stand for
 pub mod Views
 -- what is printed of a fault

@@ -33,12 +33,13 @@
 //! `specs/Faults.antt`, and what a path selects in `specs/Selecting.antt`, over the tree of a document.
 //! [`Path::read`] promises that it reads just the paths, each as its steps, and that a refusal is at
 //! the first byte with which no path begins. [`Path::one`] and [`Path::all`] promise just the nodes
-//! that are selected, in their order. The functions of [`laws`] prove that spelling and reading
+//! that are selected, in their order, and that each is a part of the document as `Doc::compact` and the
+//! other getters take it. The functions of [`laws`] prove that spelling and reading
 //! agree, that a path without a star selects one node at most, and that the nodes that are selected
 //! come in the order of the document, no two of them the same.
 //!
-//! `one` takes no memory. `all` keeps the nodes of one step at a time: no more than the document has.
-//! A step to a name looks through the members of its object one by one.
+//! How it is built, not promised: `all` keeps the nodes of one step at a time, and a step to a name
+//! looks through the members of its object one by one.
 //!
 //! Left out: `..`, filters, slices, unions, negative indexes, and escapes in quoted names.
 #![tactic(auto)]
@@ -52,6 +53,3 @@ mod step;
 
 pub use fault::PathFault;
 pub use path::Path;
-
-#[cfg(test)]
-mod tests;

@@ -1,12 +1,11 @@
 ghost use Rattle.std.specs.Prelude.{◌≡◌, ◌∷◌, [], ℕ, List, All, map, IfOk, IfSome, IsErrOf, MatchOption, MatchResult, false};
-ghost use Rattle.json_subset.specs.Documents.{IsPart, part, root_tree};
+ghost use Rattle.json_subset.specs.Documents.{IsPart, IsWithin, part, root_tree};
 ghost use Rattle.jsonpath_core.specs.Faults.{IsBadAt};
 ghost use Rattle.jsonpath_core.specs.Reading.{path_of};
 ghost use Rattle.jsonpath_core.specs.Selecting.{select};
 ghost use Rattle.jsonpath_core.specs.Spelling.{IsPath};
 ghost use Rattle.jsonpath_core.specs.Steps.{Step as StepOf, starred as starred_of};
 ghost use Rattle.jsonpath_core.specs.Views.{Gives};
-ghost use Rattle.jsonpath_core.specs.Within.{IsWithin};
 
 use crate::fault::PathFault;
 use crate::reader::read_path;
@@ -36,7 +35,7 @@ impl Model for Path {
 }
 
 impl Path {
-    /// Reads a path, in time linear in the length of the text.
+    /// Reads a path.
     ///
     /// A path is `$`, and then steps: `.name`, whose name is of ASCII letters, digits, `_`, `-` and
     /// characters past ASCII; `['name']` or `["name"]`, which have no escapes; `[n]`; `[*]` or `.*`.
@@ -70,8 +69,7 @@ impl Path {
         starred(&self.steps)
     }
 
-    /// The node that a path without a star selects, and `None` where it selects none. It takes no
-    /// memory, and one walk down the document.
+    /// The node that a path without a star selects, and `None` where it selects none.
     pub fn one(&self, doc: &Doc) -> Option<NodeId>
         requires { starred_of self.now ≡ false }
         ensures selected { MatchOption result (select self.now (root_tree doc.now) ≡ []) (λ k. IsPart doc.now k × (select self.now (root_tree doc.now) ≡ part doc.now k ∷ [])) }

@@ -25,6 +25,3 @@
 mod pattern;
 
 pub use pattern::{Pattern, PatternFault};
-
-#[cfg(test)]
-mod tests;

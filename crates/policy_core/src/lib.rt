@@ -37,10 +37,11 @@
 //! covers, else the first Allow that does, and takes no memory. The functions of [`laws`] prove that
 //! the tests and the faults agree with the relations that say what they are for.
 //!
-//! A pattern is compared in one scan with a place to return to: it looks at no more pairs of
-//! characters than the product of the two lengths, whatever the stars. Names of members, `Allow` and
-//! `Deny` are compared with regard to case, other members are ignored, and values of a context are kept
-//! as their texts: a number as it is written.
+//! Names of members, `Allow` and `Deny` are compared with regard to case, other members are ignored, and
+//! values of a context are kept as their texts: a number as it is written.
+//!
+//! How it is built, not promised: a pattern is compared in one scan with a place to return to, and looks at
+//! no more pairs of characters than the product of the two lengths, whatever the stars.
 //!
 //! Left out: conditions, principals other than `principalId`, variables in patterns, and escapes of `*` and `?`.
 #![tactic(auto)]
@@ -59,6 +60,3 @@ pub use decision::decide;
 pub use fault::PolicyFault;
 pub use policy::{Decision, Policy, Statement};
 pub use reply::{AuthReply, LIMIT};
-
-#[cfg(test)]
-mod tests;

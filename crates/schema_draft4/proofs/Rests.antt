@@ -1,7 +1,8 @@
 -- What is left of a list or an object behind some of its parts.
 use Rattle.std.proofs.Common.{◌≡◌, ℕ, zero, suc, ◌+◌, List, Some, None, refl, sym, ◌∙◌, ap, arith, [], ◌∷◌, map, false, true}
 use Rattle.json_values.specs.Parts.{trees_in, items_of}
-use Rattle.json_values.specs.Values.{AreSound, Mirror, plain, plain_form, plain_trees, plain_of, source_of}
+use Rattle.json_subset.specs.Bare.{bare, bare_form, bare_trees}
+use Rattle.json_values.specs.Values.{AreSound, Mirror, plain_of, source_of}
 use Rattle.json_values.specs.declared.value.Value.{Value}
 use Rattle.json_values.proofs.Plain.{source_plain}
 use Rattle.schema_draft4.specs.Reading.{is_list, is_object, items_in, numbered_form}
@@ -84,11 +85,11 @@ trees_map : (f : ℕ → Tree) (ids : List ℕ) → trees_in (trees_of (map f id
 trees_map f [] = refl
 trees_map f (k ∷ ids) = ap (λ z. f k ∷ z) (trees_map f ids)
 
-plain_in : (ts : Trees) → trees_in (plain_trees ts) ≡ map plain (trees_in ts)
+plain_in : (ts : Trees) → trees_in (bare_trees ts) ≡ map bare (trees_in ts)
 plain_in no_trees = refl
-plain_in (tree t ts) = ap (λ z. plain t ∷ z) (plain_in ts)
+plain_in (tree t ts) = ap (λ z. bare t ∷ z) (plain_in ts)
 
-form_trees : (f : Form) (n : ℕ) → kind f ≡ kinds.List n → items_of (plain_form f) ≡ map plain (trees_in (rest_items f 0))
+form_trees : (f : Form) (n : ℕ) → kind f ≡ kinds.List n → items_of (bare_form f) ≡ map bare (trees_in (rest_items f 0))
 form_trees null n e = cc
 form_trees (bool x) n e = cc
 form_trees (number (whole y) x) n e = cc
@@ -98,20 +99,20 @@ form_trees (text x) n e = cc
 form_trees (list ts) n e = plain_in ts
 form_trees (object x) n e = cc
 
-form_plain : (t : Tree) → form (plain t) ≡ plain_form (form t)
+form_plain : (t : Tree) → form (bare t) ≡ bare_form (form t)
 form_plain (node a b f) = refl
 
 -- the listed values of a part that was read, without their places
-pub listed_plain : (d : Document) (vs : List Value) (k j n : ℕ) (ids : List ℕ) → AreSound vs → Mirror d vs → source_of d vs k ≡ part d j → kind (form (part d j)) ≡ kinds.List n → form (plain_of vs k) ≡ list (trees_of (map (plain_of vs) ids)) → map (plain_of vs) ids ≡ map plain (trees_in (rest_items (form (part d j)) 0))
+pub listed_plain : (d : Document) (vs : List Value) (k j n : ℕ) (ids : List ℕ) → AreSound vs → Mirror d vs → source_of d vs k ≡ part d j → kind (form (part d j)) ≡ kinds.List n → form (plain_of vs k) ≡ list (trees_of (map (plain_of vs) ids)) → map (plain_of vs) ids ≡ map bare (trees_in (rest_items (form (part d j)) 0))
 listed_plain d vs k j n ids sound mirror same is opened =
     sym (trees_map (plain_of vs) ids)
     ∙ sym (ap items_of opened)
     ∙ ap (λ t. items_of (form t)) (sym (source_plain d vs k sound mirror))
     ∙ ap items_of (form_plain (source_of d vs k))
-    ∙ ap (λ t. items_of (plain_form (form t))) same
+    ∙ ap (λ t. items_of (bare_form (form t))) same
     ∙ form_trees (form (part d j)) n is
 
-list_plain : (f : Form) (n : ℕ) → kind f ≡ kinds.List n → is_list (kind (plain_form f)) ≡ true
+list_plain : (f : Form) (n : ℕ) → kind f ≡ kinds.List n → is_list (kind (bare_form f)) ≡ true
 list_plain null n e = cc
 list_plain (bool x) n e = cc
 list_plain (number (whole y) x) n e = cc
@@ -125,7 +126,7 @@ pub listed_list : (d : Document) (vs : List Value) (k j n : ℕ) → AreSound vs
 listed_list d vs k j n sound mirror same is =
     ap (λ t. is_list (kind (form t))) (sym (source_plain d vs k sound mirror))
     ∙ ap (λ f. is_list (kind f)) (form_plain (source_of d vs k))
-    ∙ ap (λ t. is_list (kind (plain_form (form t)))) same
+    ∙ ap (λ t. is_list (kind (bare_form (form t)))) same
     ∙ list_plain (form (part d j)) n is
 
 -- a value of another kind has no members

@@ -10,7 +10,7 @@ use Rattle.json_subset.specs.Reading.{named}
 use Rattle.json_subset.specs.Documents.{form, decoded, member_named, kind}
 use Rattle.json_subset.specs.declared.doc.Kind.{Kind}
 use Rattle.json_subset.specs.declared.doc.Kind.TheVariants as kinds
-use Rattle.json_values.specs.Values.{plain}
+use Rattle.json_subset.specs.Bare.{bare}
 use Rattle.json_values.specs.Parts.{trees_in}
 use Rattle.pattern_core.specs.Search.{is_pattern}
 use Rattle.schema_keywords.specs.Keywords.{Test, type, required, minimum, maximum, multiple_of, min_length, max_length, pattern, enum, min_items, max_items, unique_items, min_properties, max_properties, are_distinct}
@@ -190,7 +190,7 @@ enum_from (t ∷ ts) = if are_distinct (trees_of (t ∷ ts)) then Some (enum (t 
 
 abbrev pub enum_of : Option Trees → Option Test
 enum_of None = None
-enum_of (Some ts) = enum_from (map plain (trees_in ts))
+enum_of (Some ts) = enum_from (map bare (trees_in ts))
 
 -- 5.1: a bound is whole (a rule of this product)
 abbrev pub bounded : Word → Option ℤ → Bool → Bool → Option Test

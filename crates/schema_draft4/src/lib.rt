@@ -21,9 +21,9 @@
 //! definition's verdict, for every schema and every document. What a fault or a verdict names is a part of the document.
 //! The laws of the verdict are in `schema_rules`. Want of memory alone has no cause.
 //!
-//! A schema is numbered nodes; references go by number. A check costs at most one verdict for each schema and each part
-//! of the value, schemas of one value lowest first, so that its recursion is as deep as the value, whatever the schema.
-//! `uniqueItems` and `enum` compare pair by pair.
+//! How it is built, not promised: a schema is numbered nodes, and references go by number. A check costs at most one
+//! verdict for each schema and each part of the value, schemas of one value lowest first, so that its recursion is as deep
+//! as the value, whatever the schema. `uniqueItems` and `enum` compare pair by pair.
 //!
 //! Left out: `patternProperties`, `dependencies`, references to other documents, bounds with a fraction; `format` is
 //! ignored. No clause says that want of memory is never answered in place of a schema; tests show it.
@@ -46,6 +46,3 @@ pub use fault::SchemaFault;
 pub use schema::Schema;
 pub use schema_keywords::{Keyword, TypeName};
 pub use schema_rules::Verdict;
-
-#[cfg(test)]
-mod tests;

@@ -67,7 +67,7 @@ fn is_read(refers: bool, root: bool, word: Word) -> bool
     }
 }
 
-/// The number of the schema that stands here, behind the schemas so far; the recursion is as deep as the value.
+/// The number of the schema that stands here, behind the schemas so far.
 #[cycle(schemas)]
 pub fn read_schema(
     alloc: Global,

@@ -4,7 +4,8 @@ ghost use Rattle.json_subset.specs.Documents.{IsPart, form, kind, part, decoded}
 ghost use Rattle.json_subset.specs.declared.doc.Kind.TheVariants as kinds;
 ghost use Rattle.json_subset.specs.Nodes.{AllBelow};
 ghost use Rattle.json_subset.specs.Tree.{list, trees_of};
-ghost use Rattle.json_values.specs.Values.{AreSound, plain, plain_of};
+ghost use Rattle.json_subset.specs.Bare.{bare};
+ghost use Rattle.json_values.specs.Values.{AreSound, plain_of};
 ghost use Rattle.json_values.specs.Parts.{trees_in};
 ghost use Rattle.schema_draft4.specs.Faults.{rest_items};
 ghost use Rattle.std.specs.String.{string_bytes};
@@ -183,7 +184,7 @@ fn read_list(
 ) -> Result<(Vec<Value>, Vec<usize>), Memory>
     requires stands { IsPart doc.now id }
     requires list { kind (form (part doc.now id)) ≡ kinds.List count }
-    ensures items { IfOk result (λ p. map (plain_of p.0.items) p.1.items ≡ map plain (trees_in (rest_items (form (part doc.now id)) 0))) }
+    ensures items { IfOk result (λ p. map (plain_of p.0.items) p.1.items ≡ map bare (trees_in (rest_items (form (part doc.now id)) 0))) }
     ensures sound { IfOk result (λ p. AreSound p.0.items) }
     ensures below { IfOk result (λ p. AllBelow (length p.0.items) p.1.items) }
 {

@@ -63,8 +63,7 @@ impl Schema {
     }
 
     /// The schema that this part of a document is, with all that it names; or the first fault in reading order, and
-    /// `RefCycle` where there is no other. Linear in the part, but for the order of names, and for `uniqueItems` and
-    /// `enum`; the recursion is as deep as the value.
+    /// `RefCycle` where there is no other.
     pub fn read(alloc: Global, doc: &Doc, id: NodeId) -> Result<Schema, SchemaFault>
         requires { IsPart doc.now id }
         ensures read { IfOk result (λ s. linked_schemas (part doc.now id) ≡ Ok (compiled_schemas s, s.root)) }

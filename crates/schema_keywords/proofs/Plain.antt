@@ -4,13 +4,13 @@ use Rattle.std.specs.Prelude.{if◌then◌else◌, nat_le}
 use Rattle.json_subset.specs.Tree.{Tree, Form, null, bool, number, text, list, object, Trees, no_trees, tree, Members}
 use Rattle.json_subset.specs.Documents.{form, first_named, count}
 use Rattle.json_values.specs.Same.{same, same_form}
-use Rattle.json_values.specs.Values.{plain, plain_form, plain_trees, plain_members}
+use Rattle.json_subset.specs.Bare.{bare, bare_form, bare_trees, bare_members}
 use Rattle.json_values.proofs.Plain.{same_plain, same_plain_left_form, plain_named, plain_count}
 use Rattle.schema_keywords.specs.Keywords.{Test, type, required, minimum, maximum, multiple_of, min_length, max_length, pattern, enum, min_items, max_items, unique_items, min_properties, max_properties, is_of, is_any, is_among, is_in, are_distinct, has_all, meets}
 use Rattle.schema_keywords.specs.declared.keyword.TypeName.{TypeName}
 use Rattle.schema_keywords.specs.declared.keyword.TypeName.TheVariants as names
 
-of_plain : (f : Form) (t : TypeName) → is_of (plain_form f) t ≡ is_of f t
+of_plain : (f : Form) (t : TypeName) → is_of (bare_form f) t ≡ is_of f t
 of_plain null t = refl
 of_plain (bool b) t = refl
 of_plain (number x s) t = refl
@@ -30,37 +30,37 @@ of_plain (object ms) names.Number = refl
 of_plain (object ms) names.Object = refl
 of_plain (object ms) names.Text = refl
 
-any_plain : (f : Form) (ts : List TypeName) → is_any (plain_form f) ts ≡ is_any f ts
+any_plain : (f : Form) (ts : List TypeName) → is_any (bare_form f) ts ≡ is_any f ts
 any_plain f [] = refl
-any_plain f (t ∷ ts) = ap (λ b. if b then true else is_any (plain_form f) ts) (of_plain f t) ∙ ap (λ b. if is_of f t then true else b) (any_plain f ts)
+any_plain f (t ∷ ts) = ap (λ b. if b then true else is_any (bare_form f) ts) (of_plain f t) ∙ ap (λ b. if is_of f t then true else b) (any_plain f ts)
 
-among_plain : (f : Form) (es : List Tree) → is_among (plain_form f) es ≡ is_among f es
+among_plain : (f : Form) (es : List Tree) → is_among (bare_form f) es ≡ is_among f es
 among_plain f [] = refl
-among_plain f (e ∷ es) = ap (λ b. if b then true else is_among (plain_form f) es) (same_plain_left_form f (form e)) ∙ ap (λ b. if same_form f (form e) then true else b) (among_plain f es)
+among_plain f (e ∷ es) = ap (λ b. if b then true else is_among (bare_form f) es) (same_plain_left_form f (form e)) ∙ ap (λ b. if same_form f (form e) then true else b) (among_plain f es)
 
 some_map : (f : Tree → Tree) (o : Option Tree) → is_some (option_map f o) ≡ is_some o
 some_map f None = refl
 some_map f (Some t) = refl
 
-all_plain : (xs : List (List ℕ)) (ms : Members) → has_all xs (plain_members ms) ≡ has_all xs ms
+all_plain : (xs : List (List ℕ)) (ms : Members) → has_all xs (bare_members ms) ≡ has_all xs ms
 all_plain [] ms = refl
 all_plain (x ∷ xs) ms =
-    ap (λ b. if b then has_all xs (plain_members ms) else false) (ap is_some (plain_named ms x) ∙ some_map plain (first_named ms x))
+    ap (λ b. if b then has_all xs (bare_members ms) else false) (ap is_some (plain_named ms x) ∙ some_map bare (first_named ms x))
     ∙ ap (λ b. if is_some (first_named ms x) then b else false) (all_plain xs ms)
 
-in_plain : (t : Tree) (ts : Trees) → is_in (plain t) (plain_trees ts) ≡ is_in t ts
+in_plain : (t : Tree) (ts : Trees) → is_in (bare t) (bare_trees ts) ≡ is_in t ts
 in_plain t no_trees = refl
-in_plain t (tree u us) = ap (λ b. if b then true else is_in (plain t) (plain_trees us)) (same_plain t u) ∙ ap (λ b. if same t u then true else b) (in_plain t us)
+in_plain t (tree u us) = ap (λ b. if b then true else is_in (bare t) (bare_trees us)) (same_plain t u) ∙ ap (λ b. if same t u then true else b) (in_plain t us)
 
-distinct_plain : (ts : Trees) → are_distinct (plain_trees ts) ≡ are_distinct ts
+distinct_plain : (ts : Trees) → are_distinct (bare_trees ts) ≡ are_distinct ts
 distinct_plain no_trees = refl
-distinct_plain (tree t ts) = ap (λ b. if b then false else are_distinct (plain_trees ts)) (in_plain t ts) ∙ ap (λ b. if is_in t ts then false else b) (distinct_plain ts)
+distinct_plain (tree t ts) = ap (λ b. if b then false else are_distinct (bare_trees ts)) (in_plain t ts) ∙ ap (λ b. if is_in t ts then false else b) (distinct_plain ts)
 
-trees_count : (ts : Trees) → count (plain_trees ts) ≡ count ts
+trees_count : (ts : Trees) → count (bare_trees ts) ≡ count ts
 trees_count no_trees = refl
 trees_count (tree t ts) = ap suc (trees_count ts)
 
-pub meets_plain : (f : Form) (t : Test) → meets (plain_form f) t ≡ meets f t
+pub meets_plain : (f : Form) (t : Test) → meets (bare_form f) t ≡ meets f t
 meets_plain f (type ts) = any_plain f ts
 meets_plain null (required xs) = refl
 meets_plain (bool v) (required xs) = refl

@@ -11,8 +11,9 @@
 //!
 //! What the contracts promise: `leads` answers exactly whether a chain leads there. `order` answers ranks, each below the
 //! number of things and above the ranks of what the thing stands on, or `None`, and then some thing stands on one that
-//! leads back to it. A thing past the last stands on nothing. Want of memory alone has no cause. Both are linear in the
-//! things and the edges, and recurse nowhere.
+//! leads back to it. A thing past the last stands on nothing. Want of memory alone has no cause.
+//!
+//! How it is built, not promised: both are linear in the things and the edges, and recurse nowhere.
 #![tactic(auto)]
 
 mod ranks;

@@ -8,7 +8,8 @@ use Rattle.std.specs.declared.alloc.Global.{Global}
 use Rattle.json_subset.specs.Tree.{Tree, node, trees_of, members_of}
 use Rattle.json_subset.specs.Nodes.{member_at}
 use Rattle.json_subset.specs.Documents.{form}
-use Rattle.json_values.specs.Values.{plain, plain_form, plain_of}
+use Rattle.json_subset.specs.Bare.{bare, bare_form}
+use Rattle.json_values.specs.Values.{plain_of}
 use Rattle.json_values.proofs.Plain.{source_plain}
 use Rattle.schema_keywords.specs.Keywords.{Test, meets}
 use Rattle.schema_keywords.proofs.Plain.{meets_plain}
@@ -19,7 +20,7 @@ use Rattle.schema_rules.specs.Verdict.{Part, additional, each_unnamed, find, fir
 use Rattle.schema_rules.specs.Cases.{IsSoundCase, tree_in, value_in, part_in, member_in}
 use Rattle.schema_rules.specs.declared.case.Case.{Case}
 
-form_plain : (t : Tree) → form (plain t) ≡ plain_form (form t)
+form_plain : (t : Tree) → form (bare t) ≡ bare_form (form t)
 form_plain (node a b f) = refl
 
 -- a keyword that looks at the value alone is met with or without places

@@ -15,8 +15,8 @@
 //! [`judge_value`] answers it for every document, where the schemas are sound ([`are_sound`]): each comes behind all that
 //! it names for the same value, and all that is named stands. The laws of the definitions are in [`laws`].
 //!
-//! A verdict costs at most one for each schema and each part of the value, schemas of one value lowest first, so that the
-//! recursion is as deep as the value, whatever the schema.
+//! How it is built, not promised: a verdict costs at most one for each schema and each part of the value, schemas of one
+//! value lowest first, so that the recursion is as deep as the value, whatever the schema.
 //!
 //! Left out: how schemas are read, which is `schema_draft4`; the keywords of one value alone, which is `schema_keywords`.
 #![tactic(auto)]

@@ -55,7 +55,7 @@ fn listed_value(alloc: Global, values: Vec<Value>) -> Result<Value, Memory>
 #[tactic(auto, using(crate::proofs::Chains::chain_seen))]
 pub fn eval<'a, R: Roots>(
     alloc: Global,
-    roots: &mut R,
+    roots: &R,
     arena: &Arena,
     frame: &'a Frame<'a>,
     budget: u64,
@@ -64,8 +64,7 @@ pub fn eval<'a, R: Roots>(
 ) -> Result<Value, Fail>
     requires frame { IsTrue (is_sound (length arena.now.exprs) frame.now) }
     requires stands { k < length arena.now.exprs }
-    ensures gives { Gives (λ v. v) result (scene_of run.new) (R.kept roots.new) (value budget (R.meanings roots.old) (seen arena.now.exprs frame.now k) (scene_of run.old, R.kept roots.old)) }
-    ensures same { R.meanings roots.new ≡ R.meanings roots.old }
+    ensures { Gives (λ v. v) result (scene_of run.new) (R.kept roots.now) (value budget (R.meanings roots.now) (seen arena.now.exprs frame.now k) (scene_of run.old, R.kept roots.now)) }
 {
     match arena.expr(k) {
         ExprNode::Whole(n) => {
@@ -131,7 +130,7 @@ pub fn eval<'a, R: Roots>(
 #[cycle(eval)]
 fn eval_all<'a, R: Roots>(
     alloc: Global,
-    roots: &mut R,
+    roots: &R,
     arena: &Arena,
     frame: &'a Frame<'a>,
     budget: u64,
@@ -142,8 +141,7 @@ fn eval_all<'a, R: Roots>(
     requires frame { IsTrue (is_sound (length arena.now.exprs) frame.now) }
     requires stands { below ≤ length arena.now.exprs }
     requires ids { AllBelow below ids.now }
-    ensures gives { Gives (λ vs. vs.items) result (scene_of run.new) (R.kept roots.new) (values_of budget (R.meanings roots.old) (exprs_with (arguments_of arena.now.exprs frame.now) (exprs_made (expr_of arena.now.exprs) ids.now)) (scene_of run.old, R.kept roots.old)) }
-    ensures same { R.meanings roots.new ≡ R.meanings roots.old }
+    ensures { Gives (λ vs. vs.items) result (scene_of run.new) (R.kept roots.now) (values_of budget (R.meanings roots.now) (exprs_with (arguments_of arena.now.exprs frame.now) (exprs_made (expr_of arena.now.exprs) ids.now)) (scene_of run.old, R.kept roots.now)) }
 {
     let mut values = Vec::new(alloc);
     for k in ids {
@@ -157,7 +155,7 @@ fn eval_all<'a, R: Roots>(
 #[cycle(eval)]
 fn eval_pairs<'a, R: Roots>(
     alloc: Global,
-    roots: &mut R,
+    roots: &R,
     arena: &Arena,
     frame: &'a Frame<'a>,
     budget: u64,
@@ -168,8 +166,7 @@ fn eval_pairs<'a, R: Roots>(
     requires frame { IsTrue (is_sound (length arena.now.exprs) frame.now) }
     requires stands { below ≤ length arena.now.exprs }
     requires pairs { PairsBelow below pairs.now }
-    ensures gives { Gives (λ m. m) result (scene_of run.new) (R.kept roots.new) (pairs_of budget (R.meanings roots.old) (pairs_with (arguments_of arena.now.exprs frame.now) (pairs_made (expr_of arena.now.exprs) pairs.now)) (scene_of run.old, R.kept roots.old)) }
-    ensures same { R.meanings roots.new ≡ R.meanings roots.old }
+    ensures { Gives (λ m. m) result (scene_of run.new) (R.kept roots.now) (pairs_of budget (R.meanings roots.now) (pairs_with (arguments_of arena.now.exprs frame.now) (pairs_made (expr_of arena.now.exprs) pairs.now)) (scene_of run.old, R.kept roots.now)) }
 {
     let mut maker = MapMaker::new(alloc);
     for pair in pairs {
@@ -184,7 +181,7 @@ fn eval_pairs<'a, R: Roots>(
 #[cycle(eval)]
 fn eval_pieces<'a, R: Roots>(
     alloc: Global,
-    roots: &mut R,
+    roots: &R,
     arena: &Arena,
     frame: &'a Frame<'a>,
     budget: u64,
@@ -195,8 +192,7 @@ fn eval_pieces<'a, R: Roots>(
     requires frame { IsTrue (is_sound (length arena.now.exprs) frame.now) }
     requires stands { below ≤ length arena.now.exprs }
     requires parts { PartsBelow below parts.now }
-    ensures gives { Gives (λ p. p) result (scene_of run.new) (R.kept roots.new) (pieces budget (R.meanings roots.old) (parts_with (arguments_of arena.now.exprs frame.now) (parts_made (expr_of arena.now.exprs) parts.now)) (scene_of run.old, R.kept roots.old)) }
-    ensures same { R.meanings roots.new ≡ R.meanings roots.old }
+    ensures { Gives (λ p. p) result (scene_of run.new) (R.kept roots.now) (pieces budget (R.meanings roots.now) (parts_with (arguments_of arena.now.exprs frame.now) (parts_made (expr_of arena.now.exprs) parts.now)) (scene_of run.old, R.kept roots.now)) }
 {
     let mut gathered = Pieces::new(alloc);
     for part in parts {
@@ -210,7 +206,7 @@ fn eval_pieces<'a, R: Roots>(
 #[cycle(eval)]
 fn eval_piece<'a, R: Roots>(
     alloc: Global,
-    roots: &mut R,
+    roots: &R,
     arena: &Arena,
     frame: &'a Frame<'a>,
     budget: u64,
@@ -221,8 +217,7 @@ fn eval_piece<'a, R: Roots>(
     requires frame { IsTrue (is_sound (length arena.now.exprs) frame.now) }
     requires stands { below ≤ length arena.now.exprs }
     requires part { PartBelow below part.now }
-    ensures gives { Gives printed result (scene_of run.new) (R.kept roots.new) (piece budget (R.meanings roots.old) (part_with (arguments_of arena.now.exprs frame.now) (part_made (expr_of arena.now.exprs) part.now)) (scene_of run.old, R.kept roots.old)) }
-    ensures same { R.meanings roots.new ≡ R.meanings roots.old }
+    ensures { Gives printed result (scene_of run.new) (R.kept roots.now) (piece budget (R.meanings roots.now) (part_with (arguments_of arena.now.exprs frame.now) (part_made (expr_of arena.now.exprs) part.now)) (scene_of run.old, R.kept roots.now)) }
 {
     match part {
         Part::Bytes(text) => Ok(text_value(alloc, text.as_str())?),
@@ -251,7 +246,7 @@ fn eval_piece<'a, R: Roots>(
 #[cycle(eval)]
 fn eval_chain<'a, R: Roots>(
     alloc: Global,
-    roots: &mut R,
+    roots: &R,
     arena: &Arena,
     frame: &'a Frame<'a>,
     budget: u64,
@@ -264,8 +259,7 @@ fn eval_chain<'a, R: Roots>(
     requires stands { below ≤ length arena.now.exprs }
     requires first { first < below }
     requires links { LinksBelow below links.now }
-    ensures gives { Gives (λ v. v) result (scene_of run.new) (R.kept roots.new) (chain budget (R.meanings roots.old) (seen arena.now.exprs frame.now) (seen arena.now.exprs frame.now first) links.now (scene_of run.old, R.kept roots.old)) }
-    ensures same { R.meanings roots.new ≡ R.meanings roots.old }
+    ensures { Gives (λ v. v) result (scene_of run.new) (R.kept roots.now) (chain budget (R.meanings roots.now) (seen arena.now.exprs frame.now) (seen arena.now.exprs frame.now first) links.now (scene_of run.old, R.kept roots.now)) }
 {
     spend_all(budget, run, links)?;
     let v = eval(alloc, roots, arena, frame, budget, run, first)?;
@@ -276,7 +270,7 @@ fn eval_chain<'a, R: Roots>(
 #[cycle(eval)]
 fn eval_links<'a, R: Roots>(
     alloc: Global,
-    roots: &mut R,
+    roots: &R,
     arena: &Arena,
     frame: &'a Frame<'a>,
     budget: u64,
@@ -288,8 +282,7 @@ fn eval_links<'a, R: Roots>(
     requires frame { IsTrue (is_sound (length arena.now.exprs) frame.now) }
     requires stands { below ≤ length arena.now.exprs }
     requires links { LinksBelow below links.now }
-    ensures gives { Gives (λ v. v) result (scene_of run.new) (R.kept roots.new) (linked budget (R.meanings roots.old) (seen arena.now.exprs frame.now) links.now first (scene_of run.old, R.kept roots.old)) }
-    ensures same { R.meanings roots.new ≡ R.meanings roots.old }
+    ensures { Gives (λ v. v) result (scene_of run.new) (R.kept roots.now) (linked budget (R.meanings roots.now) (seen arena.now.exprs frame.now) links.now first (scene_of run.old, R.kept roots.now)) }
 {
     let mut v = first;
     for link in links {
@@ -312,7 +305,7 @@ fn eval_links<'a, R: Roots>(
 #[cycle(eval)]
 fn eval_link<'a, R: Roots>(
     alloc: Global,
-    roots: &mut R,
+    roots: &R,
     arena: &Arena,
     frame: &'a Frame<'a>,
     budget: u64,
@@ -323,8 +316,7 @@ fn eval_link<'a, R: Roots>(
 ) -> Result<Value, Fail>
     requires frame { IsTrue (is_sound (length arena.now.exprs) frame.now) }
     requires stands { operand < length arena.now.exprs }
-    ensures gives { Gives (λ v. v) result (scene_of run.new) (R.kept roots.new) (operated (op_of operator) first (value budget (R.meanings roots.old) (seen arena.now.exprs frame.now operand)) (scene_of run.old, R.kept roots.old)) }
-    ensures same { R.meanings roots.new ≡ R.meanings roots.old }
+    ensures { Gives (λ v. v) result (scene_of run.new) (R.kept roots.now) (operated (op_of operator) first (value budget (R.meanings roots.now) (seen arena.now.exprs frame.now operand)) (scene_of run.old, R.kept roots.now)) }
 {
     match settled_by(operator, &first) {
         Some(truth) => Ok(Value::boolean(truth)),
@@ -339,7 +331,7 @@ fn eval_link<'a, R: Roots>(
 #[cycle(eval)]
 fn begin_in<'a, R: Roots>(
     alloc: Global,
-    roots: &mut R,
+    roots: &R,
     arena: &Arena,
     frame: &'a Frame<'a>,
     budget: u64,
@@ -347,8 +339,7 @@ fn begin_in<'a, R: Roots>(
     name: &str,
 ) -> Result<Reached, Fail>
     requires frame { IsTrue (is_sound (length arena.now.exprs) frame.now) }
-    ensures gives { Gives reached_of result (scene_of run.new) (R.kept roots.new) (started budget (R.meanings roots.old) (base_with (arguments_of arena.now.exprs frame.now) (named name.now)) (scene_of run.old, R.kept roots.old)) }
-    ensures same { R.meanings roots.new ≡ R.meanings roots.old }
+    ensures { Gives reached_of result (scene_of run.new) (R.kept roots.now) (started budget (R.meanings roots.now) (base_with (arguments_of arena.now.exprs frame.now) (named name.now)) (scene_of run.old, R.kept roots.now)) }
 {
     match argument(arena, frame, name) {
         Some((k, caller)) => {
@@ -363,7 +354,7 @@ fn begin_in<'a, R: Roots>(
 #[cycle(eval)]
 pub fn refer<'a, R: Roots>(
     alloc: Global,
-    roots: &mut R,
+    roots: &R,
     arena: &Arena,
     frame: &'a Frame<'a>,
     budget: u64,
@@ -375,8 +366,7 @@ pub fn refer<'a, R: Roots>(
     requires frame { IsTrue (is_sound (length arena.now.exprs) frame.now) }
     requires stands { below ≤ length arena.now.exprs }
     requires steps { StepsBelow below steps.now }
-    ensures gives { Gives (λ v. v) result (scene_of run.new) (R.kept roots.new) (referred budget (R.meanings roots.old) (base_with (arguments_of arena.now.exprs frame.now) (named name.now)) (steps_with (arguments_of arena.now.exprs frame.now) (steps_made (expr_of arena.now.exprs) steps.now)) (scene_of run.old, R.kept roots.old)) }
-    ensures same { R.meanings roots.new ≡ R.meanings roots.old }
+    ensures { Gives (λ v. v) result (scene_of run.new) (R.kept roots.now) (referred budget (R.meanings roots.now) (base_with (arguments_of arena.now.exprs frame.now) (named name.now)) (steps_with (arguments_of arena.now.exprs frame.now) (steps_made (expr_of arena.now.exprs) steps.now)) (scene_of run.old, R.kept roots.now)) }
 {
     let begun = begin_in(alloc, roots, arena, frame, budget, run, name)?;
     let reached = walk(alloc, roots, arena, frame, budget, run, begun, steps, below)?;
@@ -387,7 +377,7 @@ pub fn refer<'a, R: Roots>(
 #[cycle(eval)]
 fn walk<'a, R: Roots>(
     alloc: Global,
-    roots: &mut R,
+    roots: &R,
     arena: &Arena,
     frame: &'a Frame<'a>,
     budget: u64,
@@ -399,8 +389,7 @@ fn walk<'a, R: Roots>(
     requires frame { IsTrue (is_sound (length arena.now.exprs) frame.now) }
     requires stands { below ≤ length arena.now.exprs }
     requires steps { StepsBelow below steps.now }
-    ensures gives { Gives reached_of result (scene_of run.new) (R.kept roots.new) (walked budget (R.meanings roots.old) (steps_with (arguments_of arena.now.exprs frame.now) (steps_made (expr_of arena.now.exprs) steps.now)) (reached_of begun) (scene_of run.old, R.kept roots.old)) }
-    ensures same { R.meanings roots.new ≡ R.meanings roots.old }
+    ensures { Gives reached_of result (scene_of run.new) (R.kept roots.now) (walked budget (R.meanings roots.now) (steps_with (arguments_of arena.now.exprs frame.now) (steps_made (expr_of arena.now.exprs) steps.now)) (reached_of begun) (scene_of run.old, R.kept roots.now)) }
 {
     let mut reached = begun;
     for step in steps {
@@ -415,7 +404,7 @@ fn walk<'a, R: Roots>(
 #[cycle(eval)]
 fn take_step<'a, R: Roots>(
     alloc: Global,
-    roots: &mut R,
+    roots: &R,
     arena: &Arena,
     frame: &'a Frame<'a>,
     budget: u64,
@@ -427,8 +416,7 @@ fn take_step<'a, R: Roots>(
     requires frame { IsTrue (is_sound (length arena.now.exprs) frame.now) }
     requires stands { below ≤ length arena.now.exprs }
     requires step { StepBelow below step.now }
-    ensures gives { Gives reached_of result (scene_of run.new) (R.kept roots.new) (stepped budget (R.meanings roots.old) (step_with (arguments_of arena.now.exprs frame.now) (step_made (expr_of arena.now.exprs) step.now)) (reached_of reached) (scene_of run.old, R.kept roots.old)) }
-    ensures same { R.meanings roots.new ≡ R.meanings roots.old }
+    ensures { Gives reached_of result (scene_of run.new) (R.kept roots.now) (stepped budget (R.meanings roots.now) (step_with (arguments_of arena.now.exprs frame.now) (step_made (expr_of arena.now.exprs) step.now)) (reached_of reached) (scene_of run.old, R.kept roots.now)) }
 {
     match step {
         StepNode::Member(name) => after_name(alloc, roots, run, reached, name.as_str()),

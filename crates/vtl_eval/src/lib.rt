@@ -24,13 +24,13 @@
 //! those that the definition of rendering gives (`specs/Meaning.antt`), or the stop is the limit that it meets first, with
 //! what was written before; and the roots mean what they meant. The definition speaks of the tree without macros
 //! (`specs/Expanded.antt` of `vtl_grammar`): in place of each call its macro's body, with the arguments' expressions in
-//! place of the parameters. Nothing is substituted here: a body is run in a `Frame` that points to the arguments in the
-//! frame of the call, and a call whose whole body does nothing is passed over, which changes nothing
-//! ([`laws::passing_over_changes_nothing`]). Evaluation recurses no deeper than brackets and blocks nest, which a
-//! template's reader holds to 64 levels, in each of at most twenty macro bodies: chains of operators, steps and items are
-//! loops.
+//! place of the parameters. To pass over a call whose whole body does nothing changes nothing
+//! ([`laws::passing_over_changes_nothing`]).
 //!
-//! Not promised: how long it takes. A variable is found by its name from the first that was set on.
+//! How it is built, not promised: nothing is substituted here. A body is run in a `Frame` that points to the arguments in
+//! the frame of the call, and a call whose whole body does nothing is passed over. Evaluation recurses no deeper than
+//! brackets and blocks nest, which a template's reader holds to 64 levels, in each of at most twenty macro bodies: chains
+//! of operators, steps and items are loops. A variable is found by its name from the first that was set on.
 #![tactic(auto)]
 
 mod eval;
@@ -46,8 +46,6 @@ mod rendering;
 mod roots;
 mod run;
 mod stop;
-#[cfg(test)]
-mod tests;
 
 pub use rendering::render;
 pub use roots::{Root, Roots, Step};

@@ -57,13 +57,12 @@ fn turn_value(run: &Run, name: &str) -> Value
 // Asks the roots for the value of a path.
 fn ask<R: Roots>(
     alloc: Global,
-    roots: &mut R,
+    roots: &R,
     run: &mut Run,
     root: Root,
     path: &[Step],
 ) -> Result<Reached, Fail>
-    ensures gives { Gives reached_of result (scene_of run.new) (R.kept roots.new) (asked (R.meanings roots.old) root (map stepped_of path.now) (scene_of run.old, R.kept roots.old)) }
-    ensures same { R.meanings roots.new ≡ R.meanings roots.old }
+    ensures { Gives reached_of result (scene_of run.new) (R.kept roots.now) (asked (R.meanings roots.now) root (map stepped_of path.now) (scene_of run.old, R.kept roots.now)) }
 {
     let value = roots.get(alloc, root, path)?;
     make_value(run, &value)?;
@@ -84,12 +83,11 @@ fn name_steps(alloc: Global, names: Vec<Text>) -> Result<Vec<Step>, Memory>
 // The value at names below `$context`.
 fn at_names<R: Roots>(
     alloc: Global,
-    roots: &mut R,
+    roots: &R,
     run: &mut Run,
     names: Vec<Text>,
 ) -> Result<Reached, Fail>
-    ensures gives { Gives reached_of result (scene_of run.new) (R.kept roots.new) (at_path (R.meanings roots.old) names.items (scene_of run.old, R.kept roots.old)) }
-    ensures same { R.meanings roots.new ≡ R.meanings roots.old }
+    ensures { Gives reached_of result (scene_of run.new) (R.kept roots.now) (at_path (R.meanings roots.now) names.items (scene_of run.old, R.kept roots.now)) }
 {
     if names.is_empty() {
         return Ok(Reached::Value(Value::null()));
@@ -101,12 +99,11 @@ fn at_names<R: Roots>(
 /// Names below `$context` end at another step.
 pub fn settle<R: Roots>(
     alloc: Global,
-    roots: &mut R,
+    roots: &R,
     run: &mut Run,
     reached: Reached,
 ) -> Result<Reached, Fail>
-    ensures gives { Gives reached_of result (scene_of run.new) (R.kept roots.new) (settled (R.meanings roots.old) (reached_of reached) (scene_of run.old, R.kept roots.old)) }
-    ensures same { R.meanings roots.new ≡ R.meanings roots.old }
+    ensures { Gives reached_of result (scene_of run.new) (R.kept roots.now) (settled (R.meanings roots.now) (reached_of reached) (scene_of run.old, R.kept roots.now)) }
 {
     match reached {
         Reached::Context(names) => at_names(alloc, roots, run, names),
@@ -119,13 +116,12 @@ pub fn settle<R: Roots>(
 /// `.name`.
 pub fn after_name<R: Roots>(
     alloc: Global,
-    roots: &mut R,
+    roots: &R,
     run: &mut Run,
     reached: Reached,
     name: &str,
 ) -> Result<Reached, Fail>
-    ensures gives { Gives reached_of result (scene_of run.new) (R.kept roots.new) (after_name_of (R.meanings roots.old) name.now (reached_of reached) (scene_of run.old, R.kept roots.old)) }
-    ensures same { R.meanings roots.new ≡ R.meanings roots.old }
+    ensures { Gives reached_of result (scene_of run.new) (R.kept roots.now) (after_name_of (R.meanings roots.now) name.now (reached_of reached) (scene_of run.old, R.kept roots.now)) }
 {
     match reached {
         Reached::Value(value) => Ok(Reached::Value(member(&value, name)?)),
@@ -146,13 +142,12 @@ pub fn after_name<R: Roots>(
 /// `[index]`.
 pub fn after_index<R: Roots>(
     alloc: Global,
-    roots: &mut R,
+    roots: &R,
     run: &mut Run,
     reached: Reached,
     index: Value,
 ) -> Result<Reached, Fail>
-    ensures gives { Gives reached_of result (scene_of run.new) (R.kept roots.new) (after_index_of (R.meanings roots.old) (reached_of reached) index (scene_of run.old, R.kept roots.old)) }
-    ensures same { R.meanings roots.new ≡ R.meanings roots.old }
+    ensures { Gives reached_of result (scene_of run.new) (R.kept roots.now) (after_index_of (R.meanings roots.now) (reached_of reached) index (scene_of run.old, R.kept roots.now)) }
 {
     match reached {
         Reached::Value(value) => Ok(Reached::Value(item_at(&index, &value)?)),
@@ -190,14 +185,13 @@ fn call_method(
 /// `.name(arguments)`.
 pub fn after_call<R: Roots>(
     alloc: Global,
-    roots: &mut R,
+    roots: &R,
     run: &mut Run,
     reached: Reached,
     name: &str,
     arguments: Vec<Value>,
 ) -> Result<Reached, Fail>
-    ensures gives { Gives reached_of result (scene_of run.new) (R.kept roots.new) (after_call_of (R.meanings roots.old) name.now (reached_of reached) arguments.items (scene_of run.old, R.kept roots.old)) }
-    ensures same { R.meanings roots.new ≡ R.meanings roots.old }
+    ensures { Gives reached_of result (scene_of run.new) (R.kept roots.now) (after_call_of (R.meanings roots.now) name.now (reached_of reached) arguments.items (scene_of run.old, R.kept roots.now)) }
 {
     match reached {
         Reached::Value(value) => {
@@ -217,12 +211,11 @@ pub fn after_call<R: Roots>(
 /// The value at the end of a reference.
 pub fn end_reference<R: Roots>(
     alloc: Global,
-    roots: &mut R,
+    roots: &R,
     run: &mut Run,
     reached: Reached,
 ) -> Result<Value, Fail>
-    ensures gives { Gives (λ v. v) result (scene_of run.new) (R.kept roots.new) (ended_of (R.meanings roots.old) (reached_of reached) (scene_of run.old, R.kept roots.old)) }
-    ensures same { R.meanings roots.new ≡ R.meanings roots.old }
+    ensures { Gives (λ v. v) result (scene_of run.new) (R.kept roots.now) (ended_of (R.meanings roots.now) (reached_of reached) (scene_of run.old, R.kept roots.now)) }
 {
     match settle(alloc, roots, run, reached)? {
         Reached::Value(value) => Ok(value),

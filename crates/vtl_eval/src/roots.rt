@@ -33,10 +33,8 @@ pub trait Roots {
     ghost kept: { Self → Kept };
 
     /// The value of a path below a root.
-    fn get(&mut self, alloc: Global, root: Root, path: &[Step]) -> Result<Value, Memory>
-        ensures value { IfOk result (λ v. v ≡ (meanings self.old).value root (map stepped_of path.now)) }
-        ensures meanings { meanings self.new ≡ meanings self.old }
-        ensures kept { kept self.new ≡ kept self.old };
+    fn get(&self, alloc: Global, root: Root, path: &[Step]) -> Result<Value, Memory>
+        ensures { IfOk result (λ v. v ≡ (meanings self.now).value root (map stepped_of path.now)) };
 
     /// Writes a value to a path below `$context`, and answers whether the path may be written.
     fn write(&mut self, alloc: Global, path: &[Text], value: &Value) -> Result<bool, Memory>

@@ -26,9 +26,10 @@
 //! [`call`] answers for every name, value and list of arguments what the table `method_of` of `specs/Methods.antt` says,
 //! and counts the bytes of the texts that are made for it: the strings of what it gives, keys among them, and the
 //! printed texts that `contains` compares, up to the first equal item. It answers [`Lack::Room`] exactly where these
-//! have no room, and makes no text that is longer than the room or than what it was handed in. A range is never spread
-//! out: a whole number is compared with its ends alone. [`Lack::Memory`] is answered where memory is wanting, and where
-//! there is room for 2^64 - 1 bytes and a value takes as many.
+//! have no room. [`Lack::Memory`] is answered where memory is wanting, and where there is room for 2^64 - 1 bytes and a
+//! value takes as many.
+//!
+//! How it is built, not promised: a range is never spread out, a whole number is compared with its ends alone.
 //!
 //! [`Lack::Room`]: vtl_values::Lack
 #![tactic(auto)]
@@ -41,6 +42,3 @@ mod names;
 mod texts;
 
 pub use calls::call;
-
-#[cfg(test)]
-mod tests;

@@ -32,8 +32,10 @@
 //! [`Template::read`] promises that what it reads has the tree that the definition `read_of` of `vtl_grammar` gives, and
 //! that each refusal is that definition's first fault with its place; want of memory alone is free. The nodes stand in
 //! an [`Arena`], the parts of each before it; `expr_of` and `item_of` of `specs/Nodes.antt` say which tree a number
-//! stands for, and [`macro_named`] finds a macro by its name. Recursion is no deeper than the 64 levels, and the time is
-//! linear in the text, but for the logarithm by which names are found.
+//! stands for, and [`macro_named`] finds a macro by its name.
+//!
+//! How it is built, not promised: recursion is no deeper than the 64 levels, and the time is linear in the text, but for
+//! the logarithm by which names are found.
 #![tactic(auto)]
 
 mod arena;

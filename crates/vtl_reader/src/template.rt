@@ -171,7 +171,7 @@ fn are_plain(arena: &Arena, items: &[usize]) -> bool
 }
 
 impl Template {
-    /// Reads a template, in time linear in the length of the text, but for the logarithm by which macros are found.
+    /// Reads a template.
     ///
     /// # Errors
     ///

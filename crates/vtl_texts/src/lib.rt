@@ -36,6 +36,3 @@ pub use forms::{lower, trim, upper};
 pub use patterns::{literal, replacement};
 pub use pieces::split;
 pub use places::{contains, ends_with, starts_with};
-
-#[cfg(test)]
-mod tests;

@@ -1,4 +1,5 @@
 pub mod Depths
+pub mod Fronts
 pub mod Items
 pub mod Numbers
 pub mod Pieces

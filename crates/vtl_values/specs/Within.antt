@@ -1,5 +1,5 @@
 -- What stands after a call that has so much room.
-use Rattle.std.specs.Prelude.{◌≡◌, ℕ, ◌+◌, ◌<◌, ◌≤◌, Bool, List, ◌++◌, length, Result, Ok, Err}
+use Rattle.std.specs.Prelude.{◌≡◌, ℕ, ◌+◌, ◌<◌, ◌≤◌, Bool, List, ◌++◌, length, take, Result, Ok, Err}
 use Rattle.vtl_values.specs.Val.{Val}
 use Rattle.vtl_values.specs.declared.lack.Lack.{Lack}
 use Rattle.vtl_values.specs.declared.lack.Lack.TheVariants.{Room, Memory}
@@ -25,3 +25,8 @@ abbrev pub Writes : ℕ → List ℕ → List ℕ → List ℕ → Result (Unit 
 Writes most old new more (Ok u) = (new ≡ old ++ more) × (length old + length more ≤ most)
 Writes most old new more (Err Room) = most < length old + length more
 Writes most old new more (Err Memory) = Unit {0}
+
+-- The new text is no shorter than the old one, and a front of the old one with this behind it.
+pub record HoldsFront (old new more : List ℕ) : Type 0 where
+  pub longer : length old ≤ length new
+  pub front : new ≡ take (length new) (old ++ more)

@@ -1,9 +1,8 @@
 //! The values of template expressions: what they are, how they print, and what operators and indexes give.
 //!
 //! * [`Value`] is null, a boolean, a whole number, another number by its source text, a text, a list, a range or a map. It
-//!   nests at most 64 deep. Lists and maps are shared, so a value may stand in itself sixty times over: its depth and the
-//!   bytes of its strings are kept beside it, and no call walks a value to find them.
-//! * [`print`] writes a value as text, within a number of bytes. It stops at the first byte that doesn't fit.
+//!   nests at most 64 deep. Lists and maps are shared, so a value may stand in itself sixty times over.
+//! * [`print`] writes a value as text, within a number of bytes. What doesn't fit leaves a front of it.
 //! * [`add`], [`subtract`], [`less`] and the others are the operators, and [`equal`] compares.
 //! * [`ListMaker`], [`MapMaker`] and [`ranged`] make lists, maps and ranges.
 //! * [`member`], [`item_at`], [`loop_length`] and [`loop_item`] give the parts of a value, [`list_item`], [`entry_key`] and
@@ -32,9 +31,11 @@
 //!
 //! What is promised: a contract sees a [`Value`] as the tree that it stands for, and each call gives exactly what the
 //! definitions of printing, operators and parts say of that tree. A call that takes room answers [`Lack::Room`] exactly
-//! where the texts that it would make are longer than that. Want of memory is the one answer without a cause.
+//! where the texts that it would make are longer than that. A refused [`print`] leaves the old text with some front of the
+//! printed form behind it. Want of memory is the one answer without a cause.
 //!
-//! Not promised: how long a call takes. A map is searched from its first entry on.
+//! How it is built, not promised: a value's depth and the bytes of its strings are kept beside it, and no call walks a
+//! value to find them. A map is searched from its first entry on.
 #![tactic(auto)]
 
 mod arithmetic;
@@ -59,6 +60,3 @@ pub use parts::{
 pub use printing::print;
 pub use value::Value;
 pub use view::View;
-
-#[cfg(test)]
-mod tests;

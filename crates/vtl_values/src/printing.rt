@@ -1,5 +1,5 @@
 // A value as text.
-ghost use Rattle.std.specs.Prelude.{◌≡◌, ◌++◌, ◌<◌, ◌≤◌, ◌^◌, ℕ, suc, List, [], ◌∷◌, codes, map, pos, ◌+ℤ◌, ◌-ℤ◌, ◌≤ℤ◌, ◌<ℤ◌, length};
+ghost use Rattle.std.specs.Prelude.{◌≡◌, ◌++◌, ◌<◌, ◌≤◌, ◌^◌, ℕ, suc, List, [], ◌∷◌, codes, map, pos, ◌+ℤ◌, ◌-ℤ◌, ◌≤ℤ◌, ◌<ℤ◌, length, OnErr};
 ghost use Rattle.std.specs.Fmt.{signed_decimal};
 ghost use Rattle.std.specs.Rc.{rc_str_bytes};
 ghost use Rattle.std.specs.String.{string_bytes as bytes_in};
@@ -7,18 +7,23 @@ ghost use Rattle.vtl_values.specs.Val.{vals_of};
 ghost use Rattle.vtl_values.specs.Vals.{rows_of};
 ghost use Rattle.vtl_values.specs.Ranges.{span, counted, toward, distance, numbered};
 ghost use Rattle.vtl_values.specs.Printed.{truth, joined, more, printed, all_printed, entries_printed};
-ghost use Rattle.vtl_values.specs.Within.{Writes};
+ghost use Rattle.vtl_values.specs.Within.{HoldsFront, Writes};
 
 use crate::lack::Lack;
 use crate::value::{Shape, Value};
 use itoa::Buffer;
 use std::rc::RcStr;
 
-/// Writes the printed form of a value behind a text that may have at most `most` bytes in all. Where it doesn't fit, the
-/// text holds some front of what it would have been.
+/// Writes the printed form of a value behind a text that may have at most `most` bytes in all.
+///
+/// # Errors
+///
+/// [`Lack::Room`] where it doesn't fit, and [`Lack::Memory`] where there is no memory. Behind the old text then stands
+/// some front of the printed form.
 #[cycle(print)]
 pub fn print(value: &Value, text: &mut String, most: u64) -> Result<(), Lack>
-    ensures { Writes most (bytes_in text.old) (bytes_in text.new) (printed value.now) result }
+    ensures writes { Writes most (bytes_in text.old) (bytes_in text.new) (printed value.now) result }
+    ensures front { OnErr result (HoldsFront (bytes_in text.old) (bytes_in text.new) (printed value.now)) }
 {
     match &value.shape {
         Shape::Null => write(text, "null", most),
@@ -33,7 +38,8 @@ pub fn print(value: &Value, text: &mut String, most: u64) -> Result<(), Lack>
 }
 
 fn write(text: &mut String, more: &str, most: u64) -> Result<(), Lack>
-    ensures { Writes most (bytes_in text.old) (bytes_in text.new) more.now result }
+    ensures writes { Writes most (bytes_in text.old) (bytes_in text.new) more.now result }
+    ensures front { OnErr result (HoldsFront (bytes_in text.old) (bytes_in text.new) more.now) }
 {
     let taken = text.len() as u64;
     if most < taken || most - taken < more.len() as u64 {
@@ -50,7 +56,8 @@ fn truth_text(b: bool) -> &'static str
 }
 
 fn write_whole(text: &mut String, n: i64, most: u64) -> Result<(), Lack>
-    ensures { Writes most (bytes_in text.old) (bytes_in text.new) (signed_decimal n) result }
+    ensures writes { Writes most (bytes_in text.old) (bytes_in text.new) (signed_decimal n) result }
+    ensures front { OnErr result (HoldsFront (bytes_in text.old) (bytes_in text.new) (signed_decimal n)) }
 {
     let mut buffer = Buffer::new();
     write(text, buffer.format(n), most)
@@ -58,7 +65,8 @@ fn write_whole(text: &mut String, n: i64, most: u64) -> Result<(), Lack>
 
 #[cycle(print)]
 fn print_list(items: &[Value], text: &mut String, most: u64) -> Result<(), Lack>
-    ensures { Writes most (bytes_in text.old) (bytes_in text.new) (codes "[" ++ joined (all_printed (vals_of items.now)) ++ codes "]") result }
+    ensures writes { Writes most (bytes_in text.old) (bytes_in text.new) (codes "[" ++ joined (all_printed (vals_of items.now)) ++ codes "]") result }
+    ensures front { OnErr result (HoldsFront (bytes_in text.old) (bytes_in text.new) (codes "[" ++ joined (all_printed (vals_of items.now)) ++ codes "]")) }
 {
     write(text, "[", most)?;
     print_items(items, text, most)?;
@@ -68,7 +76,8 @@ fn print_list(items: &[Value], text: &mut String, most: u64) -> Result<(), Lack>
 #[cycle(print)]
 fn print_items(items: &[Value], text: &mut String, most: u64) -> Result<(), Lack>
     requires { length (bytes_in text.old) ≤ most }
-    ensures { Writes most (bytes_in text.old) (bytes_in text.new) (joined (all_printed (vals_of items.now))) result }
+    ensures writes { Writes most (bytes_in text.old) (bytes_in text.new) (joined (all_printed (vals_of items.now))) result }
+    ensures front { OnErr result (HoldsFront (bytes_in text.old) (bytes_in text.new) (joined (all_printed (vals_of items.now)))) }
 {
     match items {
         [] => Ok(()),
@@ -82,7 +91,8 @@ fn print_items(items: &[Value], text: &mut String, most: u64) -> Result<(), Lack
 #[cycle(print)]
 fn print_more(items: &[Value], text: &mut String, most: u64) -> Result<(), Lack>
     requires { length (bytes_in text.old) ≤ most }
-    ensures { Writes most (bytes_in text.old) (bytes_in text.new) (more (all_printed (vals_of items.now))) result }
+    ensures writes { Writes most (bytes_in text.old) (bytes_in text.new) (more (all_printed (vals_of items.now))) result }
+    ensures front { OnErr result (HoldsFront (bytes_in text.old) (bytes_in text.new) (more (all_printed (vals_of items.now)))) }
 {
     for item in items {
         match print_next(item, text, most) {
@@ -95,7 +105,8 @@ fn print_more(items: &[Value], text: &mut String, most: u64) -> Result<(), Lack>
 
 #[cycle(print)]
 fn print_next(item: &Value, text: &mut String, most: u64) -> Result<(), Lack>
-    ensures { Writes most (bytes_in text.old) (bytes_in text.new) (codes ", " ++ printed item.now) result }
+    ensures writes { Writes most (bytes_in text.old) (bytes_in text.new) (codes ", " ++ printed item.now) result }
+    ensures front { OnErr result (HoldsFront (bytes_in text.old) (bytes_in text.new) (codes ", " ++ printed item.now)) }
 {
     write(text, ", ", most)?;
     print(item, text, most)
@@ -103,7 +114,8 @@ fn print_next(item: &Value, text: &mut String, most: u64) -> Result<(), Lack>
 
 #[cycle(print)]
 fn print_map(entries: &[(RcStr, Value)], text: &mut String, most: u64) -> Result<(), Lack>
-    ensures { Writes most (bytes_in text.old) (bytes_in text.new) (codes "{" ++ joined (entries_printed (rows_of entries.now)) ++ codes "}") result }
+    ensures writes { Writes most (bytes_in text.old) (bytes_in text.new) (codes "{" ++ joined (entries_printed (rows_of entries.now)) ++ codes "}") result }
+    ensures front { OnErr result (HoldsFront (bytes_in text.old) (bytes_in text.new) (codes "{" ++ joined (entries_printed (rows_of entries.now)) ++ codes "}")) }
 {
     write(text, "{", most)?;
     print_entries(entries, text, most)?;
@@ -113,7 +125,8 @@ fn print_map(entries: &[(RcStr, Value)], text: &mut String, most: u64) -> Result
 #[cycle(print)]
 fn print_entries(entries: &[(RcStr, Value)], text: &mut String, most: u64) -> Result<(), Lack>
     requires { length (bytes_in text.old) ≤ most }
-    ensures { Writes most (bytes_in text.old) (bytes_in text.new) (joined (entries_printed (rows_of entries.now))) result }
+    ensures writes { Writes most (bytes_in text.old) (bytes_in text.new) (joined (entries_printed (rows_of entries.now))) result }
+    ensures front { OnErr result (HoldsFront (bytes_in text.old) (bytes_in text.new) (joined (entries_printed (rows_of entries.now)))) }
 {
     match entries {
         [] => Ok(()),
@@ -127,7 +140,8 @@ fn print_entries(entries: &[(RcStr, Value)], text: &mut String, most: u64) -> Re
 #[cycle(print)]
 fn print_more_entries(entries: &[(RcStr, Value)], text: &mut String, most: u64) -> Result<(), Lack>
     requires { length (bytes_in text.old) ≤ most }
-    ensures { Writes most (bytes_in text.old) (bytes_in text.new) (more (entries_printed (rows_of entries.now))) result }
+    ensures writes { Writes most (bytes_in text.old) (bytes_in text.new) (more (entries_printed (rows_of entries.now))) result }
+    ensures front { OnErr result (HoldsFront (bytes_in text.old) (bytes_in text.new) (more (entries_printed (rows_of entries.now)))) }
 {
     for entry in entries {
         match print_next_entry(entry, text, most) {
@@ -140,7 +154,8 @@ fn print_more_entries(entries: &[(RcStr, Value)], text: &mut String, most: u64) 
 
 #[cycle(print)]
 fn print_next_entry(entry: &(RcStr, Value), text: &mut String, most: u64) -> Result<(), Lack>
-    ensures { Writes most (bytes_in text.old) (bytes_in text.new) (codes ", " ++ (rc_str_bytes entry.now.0 ++ codes "=" ++ printed entry.now.1)) result }
+    ensures writes { Writes most (bytes_in text.old) (bytes_in text.new) (codes ", " ++ (rc_str_bytes entry.now.0 ++ codes "=" ++ printed entry.now.1)) result }
+    ensures front { OnErr result (HoldsFront (bytes_in text.old) (bytes_in text.new) (codes ", " ++ (rc_str_bytes entry.now.0 ++ codes "=" ++ printed entry.now.1))) }
 {
     write(text, ", ", most)?;
     print_entry(entry, text, most)
@@ -148,7 +163,8 @@ fn print_next_entry(entry: &(RcStr, Value), text: &mut String, most: u64) -> Res
 
 #[cycle(print)]
 fn print_entry(entry: &(RcStr, Value), text: &mut String, most: u64) -> Result<(), Lack>
-    ensures { Writes most (bytes_in text.old) (bytes_in text.new) (rc_str_bytes entry.now.0 ++ codes "=" ++ printed entry.now.1) result }
+    ensures writes { Writes most (bytes_in text.old) (bytes_in text.new) (rc_str_bytes entry.now.0 ++ codes "=" ++ printed entry.now.1) result }
+    ensures front { OnErr result (HoldsFront (bytes_in text.old) (bytes_in text.new) (rc_str_bytes entry.now.0 ++ codes "=" ++ printed entry.now.1)) }
 {
     write(text, entry.0.as_str(), most)?;
     write(text, "=", most)?;
@@ -158,7 +174,8 @@ fn print_entry(entry: &(RcStr, Value), text: &mut String, most: u64) -> Result<(
 // Each number takes a byte at least, so a range of more numbers than bytes is refused at once.
 #[tactic(auto, unfolding(crate::specs::Ranges::span))]
 fn print_range(first: i64, last: i64, text: &mut String, most: u64) -> Result<(), Lack>
-    ensures { Writes most (bytes_in text.old) (bytes_in text.new) (codes "[" ++ joined (map signed_decimal (span first last)) ++ codes "]") result }
+    ensures writes { Writes most (bytes_in text.old) (bytes_in text.new) (codes "[" ++ joined (map signed_decimal (span first last)) ++ codes "]") result }
+    ensures front { OnErr result (HoldsFront (bytes_in text.old) (bytes_in text.new) (codes "[" ++ joined (map signed_decimal (span first last)) ++ codes "]")) }
 {
     if most < first.abs_diff(last) {
         return Err(Lack::Room);
@@ -172,7 +189,8 @@ fn print_range(first: i64, last: i64, text: &mut String, most: u64) -> Result<()
 // The numbers behind the first.
 fn write_counted(first: i64, last: i64, text: &mut String, most: u64) -> Result<(), Lack>
     requires { length (bytes_in text.old) ≤ most }
-    ensures { Writes most (bytes_in text.old) (bytes_in text.new) (more (map signed_decimal (counted (toward first last) (first +ℤ toward first last) (distance first last)))) result }
+    ensures writes { Writes most (bytes_in text.old) (bytes_in text.new) (more (map signed_decimal (counted (toward first last) (first +ℤ toward first last) (distance first last)))) result }
+    ensures front { OnErr result (HoldsFront (bytes_in text.old) (bytes_in text.new) (more (map signed_decimal (counted (toward first last) (first +ℤ toward first last) (distance first last))))) }
 {
     for i in 0..first.abs_diff(last) {
         match write_next(text, number_at(first, last, i + 1), most) {
@@ -184,7 +202,8 @@ fn write_counted(first: i64, last: i64, text: &mut String, most: u64) -> Result<
 }
 
 fn write_next(text: &mut String, n: i64, most: u64) -> Result<(), Lack>
-    ensures { Writes most (bytes_in text.old) (bytes_in text.new) (codes ", " ++ signed_decimal n) result }
+    ensures writes { Writes most (bytes_in text.old) (bytes_in text.new) (codes ", " ++ signed_decimal n) result }
+    ensures front { OnErr result (HoldsFront (bytes_in text.old) (bytes_in text.new) (codes ", " ++ signed_decimal n)) }
 {
     write(text, ", ", most)?;
     write_whole(text, n, most)

@@ -12,18 +12,18 @@ use Rattle.vtl_eval.proofs.Chains.{chain_seen}
 use Rattle.vtl_eval.proofs.Referring.{value_refers, piece_refers, fails_then}
 use Rattle.vtl_eval.proofs.eval.+eval.Goals as goal
 
-pub eval-returns-in-Chain-clause-gives : goal.eval-returns-in-Chain-clause-gives
-eval-returns-in-Chain-clause-gives g t c =
+pub eval-returns-in-Chain : goal.eval-returns-in-Chain
+eval-returns-in-Chain g t c =
     let ns = c.args.arena.now.exprs in
     let a = arguments_of c.args.arena.now.exprs c.args.frame.now in
     let s : State = (scene_of c.args.run.now, g.R.Roots.kept c.args.roots.now) in
     let e : value c.args.budget (g.R.Roots.meanings c.args.roots.now) (seen ns c.args.frame.now c.args.k) s ≡ chain c.args.budget (g.R.Roots.meanings c.args.roots.now) (seen ns c.args.frame.now) (seen ns c.args.frame.now c.in-Chain.j) c.in-Chain.links.items s =
     ap (λ z. value c.args.budget (g.R.Roots.meanings c.args.roots.now) (expr_with a z) s) (c.expr.ensures.opened ∙ ap (made (expr_of ns)) c.in-Chain.is)
     ∙ chain_seen c.args.budget (g.R.Roots.meanings c.args.roots.now) a (expr_of ns) (expr_of ns c.in-Chain.j) c.in-Chain.links.items s in
-    rw e (rw c.deref-in-Chain.ensures.value at c.eval_chain.ensures.gives)
+    rw e (rw c.deref-in-Chain.ensures.value at c.eval_chain.ensures)
 
-pub eval-returns-in_ok-spend-in-Reference-clause-gives : goal.eval-returns-in_ok-spend-in-Reference-clause-gives
-eval-returns-in_ok-spend-in-Reference-clause-gives g t c =
+pub eval-returns-in_ok-spend-in-Reference : goal.eval-returns-in_ok-spend-in-Reference
+eval-returns-in_ok-spend-in-Reference g t c =
     let ns = c.args.arena.now.exprs in
     let a = arguments_of c.args.arena.now.exprs c.args.frame.now in
     let kept = g.R.Roots.kept c.args.roots.now in
@@ -32,10 +32,10 @@ eval-returns-in_ok-spend-in-Reference-clause-gives g t c =
     let e : value c.args.budget (g.R.Roots.meanings c.args.roots.now) (seen ns c.args.frame.now c.args.k) (scene_of c.args.run.now, kept) ≡ referred c.args.budget (g.R.Roots.meanings c.args.roots.now) x ss (scene_of c.spend-in-Reference.new.run, kept) =
     ap (λ z. value c.args.budget (g.R.Roots.meanings c.args.roots.now) (expr_with a z) (scene_of c.args.run.now, kept)) (c.expr.ensures.opened ∙ ap (made (expr_of ns)) c.in-Reference.is)
     ∙ value_refers c.args.budget (g.R.Roots.meanings c.args.roots.now) x ss (scene_of c.args.run.now) (scene_of c.spend-in-Reference.new.run) kept c.in_ok-spend-in-Reference.ensures in
-    rw e (rw (c.as_str-in-Reference.ensures, c.deref-in-Reference.ensures.value) at c.refer.ensures.gives)
+    rw e (rw (c.as_str-in-Reference.ensures, c.deref-in-Reference.ensures.value) at c.refer.ensures)
 
-pub eval_piece-returns-in-Err-clause-gives : goal.eval_piece-returns-in-Err-clause-gives
-eval_piece-returns-in-Err-clause-gives g t c =
+pub eval_piece-returns-in-Err : goal.eval_piece-returns-in-Err
+eval_piece-returns-in-Err g t c =
     let ns = c.args.arena.now.exprs in
     let a = arguments_of c.args.arena.now.exprs c.args.frame.now in
     let kept = g.R.Roots.kept c.args.roots.now in
@@ -45,10 +45,10 @@ eval_piece-returns-in-Err-clause-gives g t c =
     let e : piece c.args.budget (g.R.Roots.meanings c.args.roots.now) (part_with a (part_made (expr_of ns) c.args.part.now)) (scene_of c.args.run.now, kept) ≡ (referred c.args.budget (g.R.Roots.meanings c.args.roots.now) x ss (scene_of c.spend.new.run, kept) >>= last) =
     ap (λ z. piece c.args.budget (g.R.Roots.meanings c.args.roots.now) (part_with a (part_made (expr_of ns) z)) (scene_of c.args.run.now, kept)) c.in-Printed.is
     ∙ piece_refers c.args.budget (g.R.Roots.meanings c.args.roots.now) x ss (scene_of c.args.run.now) (scene_of c.spend.new.run) kept c.in_ok-spend-in-Printed.ensures c.in-Printed.source in
-    fails_then c.in-Err.e (g.R.Roots.kept c.refer.new.roots) _ _ last e (rw (c.as_str-in-Printed.ensures, c.deref.ensures.value) at c.in-Err.ensures.gives)
+    fails_then c.in-Err.e (g.R.Roots.kept c.args.roots.now) _ _ last e (rw (c.as_str-in-Printed.ensures, c.deref.ensures.value) at c.in-Err.ensures)
 
-pub eval_piece-returns-in_ok-shown_value-in-Printed-clause-gives : goal.eval_piece-returns-in_ok-shown_value-in-Printed-clause-gives
-eval_piece-returns-in_ok-shown_value-in-Printed-clause-gives g t c =
+pub eval_piece-returns-in_ok-shown_value-in-Printed : goal.eval_piece-returns-in_ok-shown_value-in-Printed
+eval_piece-returns-in_ok-shown_value-in-Printed g t c =
     let ns = c.args.arena.now.exprs in
     let a = arguments_of c.args.arena.now.exprs c.args.frame.now in
     let kept = g.R.Roots.kept c.args.roots.now in
@@ -58,7 +58,7 @@ eval_piece-returns-in_ok-shown_value-in-Printed-clause-gives g t c =
     let e : piece c.args.budget (g.R.Roots.meanings c.args.roots.now) (part_with a (part_made (expr_of ns) c.args.part.now)) (scene_of c.args.run.now, kept) ≡ (referred c.args.budget (g.R.Roots.meanings c.args.roots.now) x ss (scene_of c.spend.new.run, kept) >>= last) =
     ap (λ z. piece c.args.budget (g.R.Roots.meanings c.args.roots.now) (part_with a (part_made (expr_of ns) z)) (scene_of c.args.run.now, kept)) c.in-Printed.is
     ∙ piece_refers c.args.budget (g.R.Roots.meanings c.args.roots.now) x ss (scene_of c.args.run.now) (scene_of c.spend.new.run) kept c.in_ok-spend-in-Printed.ensures c.in-Printed.source in
-    let st : State = (scene_of c.refer.new.run, g.R.Roots.kept c.refer.new.roots) in
+    let st : State = (scene_of c.refer.new.run, g.R.Roots.kept c.args.roots.now) in
     e
-    ∙ ap (λ z. z >>= last) (rw (c.as_str-in-Printed.ensures, c.deref.ensures.value) at c.in-Ok.ensures.gives)
+    ∙ ap (λ z. z >>= last) (rw (c.as_str-in-Printed.ensures, c.deref.ensures.value) at c.in-Ok.ensures)
     ∙ ap (λ z. Ok (z, st)) (sym (rw c.as_str-in-Printed-2.ensures at c.in_ok-shown_value-in-Printed.ensures))

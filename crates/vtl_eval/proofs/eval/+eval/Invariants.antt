@@ -44,33 +44,33 @@ decreases-eval_chain g l = (12 * length l.arena.now.exprs + 24) * size-Frame l.f
 
 abbrev pub invariant-eval_all-loop-k : goal.invariant-eval_all-loop-k
 invariant-eval_all-loop-k g l =
-    (with_front l.values.items (values_of l.budget (g.R.Roots.meanings l.fn.roots) (exprs_with (arguments_of l.arena.exprs l.frame) (exprs_made (expr_of l.arena.exprs) (drop l.k-index l.ids))) (scene_of l.run, g.R.Roots.kept l.roots))
-    ≡ values_of l.budget (g.R.Roots.meanings l.fn.roots) (exprs_with (arguments_of l.arena.exprs l.frame) (exprs_made (expr_of l.arena.exprs) l.ids)) (scene_of l.fn.run, g.R.Roots.kept l.fn.roots))
-    × AllBelow l.below (drop l.k-index l.ids) × (g.R.Roots.meanings l.roots ≡ g.R.Roots.meanings l.fn.roots)
+    (with_front l.values.items (values_of l.budget (g.R.Roots.meanings l.roots) (exprs_with (arguments_of l.arena.exprs l.frame) (exprs_made (expr_of l.arena.exprs) (drop l.k-index l.ids))) (scene_of l.run, g.R.Roots.kept l.roots))
+    ≡ values_of l.budget (g.R.Roots.meanings l.roots) (exprs_with (arguments_of l.arena.exprs l.frame) (exprs_made (expr_of l.arena.exprs) l.ids)) (scene_of l.fn.run, g.R.Roots.kept l.roots))
+    × AllBelow l.below (drop l.k-index l.ids)
 
 abbrev pub invariant-eval_pairs-loop-pair : goal.invariant-eval_pairs-loop-pair
 invariant-eval_pairs-loop-pair g l =
-    (with_front l.maker (pairs_of l.budget (g.R.Roots.meanings l.fn.roots) (pairs_with (arguments_of l.arena.exprs l.frame) (pairs_made (expr_of l.arena.exprs) (drop l.pair-index l.pairs))) (scene_of l.run, g.R.Roots.kept l.roots))
-    ≡ pairs_of l.budget (g.R.Roots.meanings l.fn.roots) (pairs_with (arguments_of l.arena.exprs l.frame) (pairs_made (expr_of l.arena.exprs) l.pairs)) (scene_of l.fn.run, g.R.Roots.kept l.fn.roots))
-    × PairsBelow l.below (drop l.pair-index l.pairs) × (g.R.Roots.meanings l.roots ≡ g.R.Roots.meanings l.fn.roots)
+    (with_front l.maker (pairs_of l.budget (g.R.Roots.meanings l.roots) (pairs_with (arguments_of l.arena.exprs l.frame) (pairs_made (expr_of l.arena.exprs) (drop l.pair-index l.pairs))) (scene_of l.run, g.R.Roots.kept l.roots))
+    ≡ pairs_of l.budget (g.R.Roots.meanings l.roots) (pairs_with (arguments_of l.arena.exprs l.frame) (pairs_made (expr_of l.arena.exprs) l.pairs)) (scene_of l.fn.run, g.R.Roots.kept l.roots))
+    × PairsBelow l.below (drop l.pair-index l.pairs)
 
 abbrev pub invariant-eval_pieces-loop-part : goal.invariant-eval_pieces-loop-part
 invariant-eval_pieces-loop-part g l =
-    (with_front l.gathered (pieces l.budget (g.R.Roots.meanings l.fn.roots) (parts_with (arguments_of l.arena.exprs l.frame) (parts_made (expr_of l.arena.exprs) (drop l.part-index l.parts))) (scene_of l.run, g.R.Roots.kept l.roots))
-    ≡ pieces l.budget (g.R.Roots.meanings l.fn.roots) (parts_with (arguments_of l.arena.exprs l.frame) (parts_made (expr_of l.arena.exprs) l.parts)) (scene_of l.fn.run, g.R.Roots.kept l.fn.roots))
-    × PartsBelow l.below (drop l.part-index l.parts) × (g.R.Roots.meanings l.roots ≡ g.R.Roots.meanings l.fn.roots)
+    (with_front l.gathered (pieces l.budget (g.R.Roots.meanings l.roots) (parts_with (arguments_of l.arena.exprs l.frame) (parts_made (expr_of l.arena.exprs) (drop l.part-index l.parts))) (scene_of l.run, g.R.Roots.kept l.roots))
+    ≡ pieces l.budget (g.R.Roots.meanings l.roots) (parts_with (arguments_of l.arena.exprs l.frame) (parts_made (expr_of l.arena.exprs) l.parts)) (scene_of l.fn.run, g.R.Roots.kept l.roots))
+    × PartsBelow l.below (drop l.part-index l.parts)
 
 abbrev pub invariant-eval_links-loop-link : goal.invariant-eval_links-loop-link
 invariant-eval_links-loop-link g l =
-    (linked l.budget (g.R.Roots.meanings l.fn.roots) (seen l.arena.exprs l.frame) (drop l.link-index l.links) l.v (scene_of l.run, g.R.Roots.kept l.roots)
-    ≡ linked l.budget (g.R.Roots.meanings l.fn.roots) (seen l.arena.exprs l.frame) l.links l.fn.first (scene_of l.fn.run, g.R.Roots.kept l.fn.roots))
-    × LinksBelow l.below (drop l.link-index l.links) × (g.R.Roots.meanings l.roots ≡ g.R.Roots.meanings l.fn.roots)
+    (linked l.budget (g.R.Roots.meanings l.roots) (seen l.arena.exprs l.frame) (drop l.link-index l.links) l.v (scene_of l.run, g.R.Roots.kept l.roots)
+    ≡ linked l.budget (g.R.Roots.meanings l.roots) (seen l.arena.exprs l.frame) l.links l.fn.first (scene_of l.fn.run, g.R.Roots.kept l.roots))
+    × LinksBelow l.below (drop l.link-index l.links)
 
 abbrev pub invariant-walk-loop-step : goal.invariant-walk-loop-step
 invariant-walk-loop-step g l =
-    (walked l.budget (g.R.Roots.meanings l.fn.roots) (steps_with (arguments_of l.arena.exprs l.frame) (steps_made (expr_of l.arena.exprs) (drop l.step-index l.steps))) (reached_of l.reached) (scene_of l.run, g.R.Roots.kept l.roots)
-    ≡ walked l.budget (g.R.Roots.meanings l.fn.roots) (steps_with (arguments_of l.arena.exprs l.frame) (steps_made (expr_of l.arena.exprs) l.steps)) (reached_of l.fn.begun) (scene_of l.fn.run, g.R.Roots.kept l.fn.roots))
-    × StepsBelow l.below (drop l.step-index l.steps) × (g.R.Roots.meanings l.roots ≡ g.R.Roots.meanings l.fn.roots)
+    (walked l.budget (g.R.Roots.meanings l.roots) (steps_with (arguments_of l.arena.exprs l.frame) (steps_made (expr_of l.arena.exprs) (drop l.step-index l.steps))) (reached_of l.reached) (scene_of l.run, g.R.Roots.kept l.roots)
+    ≡ walked l.budget (g.R.Roots.meanings l.roots) (steps_with (arguments_of l.arena.exprs l.frame) (steps_made (expr_of l.arena.exprs) l.steps)) (reached_of l.fn.begun) (scene_of l.fn.run, g.R.Roots.kept l.roots))
+    × StepsBelow l.below (drop l.step-index l.steps)
 
 abbrev pub decreases-begin_in : goal.decreases-begin_in
 decreases-begin_in g l = (12 * length l.arena.now.exprs + 24) * size-Frame l.frame.now

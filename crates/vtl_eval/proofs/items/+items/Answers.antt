@@ -1,4 +1,4 @@
-use Rattle.std.proofs.Common.{rules, arith, ap, sym, subst, ◌≡◌, ◌∙◌, ◌<◌, ◌+◌, ◌*◌, ◌-◌, ℕ, Ok, length}
+use Rattle.std.proofs.Common.{rules, arith, refl, ap, sym, subst, ◌≡◌, ◌∙◌, ◌<◌, ◌+◌, ◌*◌, ◌-◌, ℕ, Ok, length}
 use Rattle.std.specs.Prelude.{nat_lt, ◌&&◌}
 use Rattle.std.specs.List.{list_all}
 use Rattle.vtl_grammar.specs.Tree.{Item, named, output, choose}
@@ -21,11 +21,11 @@ use Rattle.vtl_eval.proofs.items.+items.Goals as goal
 
 pub run_loop-returns-in-Err-clause-gives : goal.run_loop-returns-in-Err-clause-gives
 run_loop-returns-in-Err-clause-gives g t c =
-    loop_fails c.args.budget (g.R.Roots.meanings c.args.roots.now) (g.R.Roots.meanings c.eval.new.roots) c.args.name.now (seen c.args.arena.now.exprs c.args.frame.now c.args.e) (seen_items c.args.arena.now c.args.macros.now c.args.left c.args.frame.now (items_made (item_of c.args.arena.now) c.args.body.now)) (scene_of c.args.run.now) (scene_of c.spend.new.run) (scene_of c.eval.new.run) (g.R.Roots.kept c.args.roots.now) (g.R.Roots.kept c.eval.new.roots) c.in_ok-list.list c.in_ok-list.ensures.same c.in_ok-spend.ensures c.in_ok-list.ensures.gives c.in-Err.e (g.R.Roots.kept c.run_turns.new.roots) c.in-Err.ensures.gives
+    loop_fails c.args.budget (g.R.Roots.meanings c.args.roots.now) (g.R.Roots.meanings c.args.roots.now) c.args.name.now (seen c.args.arena.now.exprs c.args.frame.now c.args.e) (seen_items c.args.arena.now c.args.macros.now c.args.left c.args.frame.now (items_made (item_of c.args.arena.now) c.args.body.now)) (scene_of c.args.run.now) (scene_of c.spend.new.run) (scene_of c.eval.new.run) (g.R.Roots.kept c.args.roots.now) (g.R.Roots.kept c.args.roots.now) c.in_ok-list.list refl c.in_ok-spend.ensures c.in_ok-list.ensures c.in-Err.e (g.R.Roots.kept c.run_turns.new.roots) c.in-Err.ensures.gives
 
 pub run_loop-returns-clause-gives : goal.run_loop-returns-clause-gives
 run_loop-returns-clause-gives g t c =
-    loop_ends c.args.budget (g.R.Roots.meanings c.args.roots.now) (g.R.Roots.meanings c.eval.new.roots) c.args.name.now (seen c.args.arena.now.exprs c.args.frame.now c.args.e) (seen_items c.args.arena.now c.args.macros.now c.args.left c.args.frame.now (items_made (item_of c.args.arena.now) c.args.body.now)) (scene_of c.args.run.now) (scene_of c.spend.new.run) (scene_of c.eval.new.run) (g.R.Roots.kept c.args.roots.now) (g.R.Roots.kept c.eval.new.roots) c.in_ok-list.list c.in_ok-list.ensures.same c.in_ok-spend.ensures c.in_ok-list.ensures.gives c.in-Ok.ended (scene_of c.run_turns.new.run) (g.R.Roots.kept c.run_turns.new.roots) c.in-Ok.ensures.gives
+    loop_ends c.args.budget (g.R.Roots.meanings c.args.roots.now) (g.R.Roots.meanings c.args.roots.now) c.args.name.now (seen c.args.arena.now.exprs c.args.frame.now c.args.e) (seen_items c.args.arena.now c.args.macros.now c.args.left c.args.frame.now (items_made (item_of c.args.arena.now) c.args.body.now)) (scene_of c.args.run.now) (scene_of c.spend.new.run) (scene_of c.eval.new.run) (g.R.Roots.kept c.args.roots.now) (g.R.Roots.kept c.args.roots.now) c.in_ok-list.list refl c.in_ok-spend.ensures c.in_ok-list.ensures c.in-Ok.ended (scene_of c.run_turns.new.run) (g.R.Roots.kept c.run_turns.new.roots) c.in-Ok.ensures.gives
     ∙ ap (λ z. Ok (z, (restored c.args.name.now ((scene_of c.eval.new.run).names c.args.name.now) c.eval.new.run.turn (scene_of c.run_turns.new.run), g.R.Roots.kept c.run_turns.new.roots))) (sym c.over.ensures)
     ∙ ap (λ z. Ok (c.over.result, (z, g.R.Roots.kept c.run_turns.new.roots))) (ap (λ z. restored c.args.name.now z c.eval.new.run.turn (scene_of c.run_turns.new.run)) (sym c.in_ok-old.ensures) ∙ sym c.in_ok-restore.ensures)
 
@@ -65,12 +65,12 @@ run_items-loop-k-preserved g t c =
 
 pub choose-returns-then-is_true-clause-gives : goal.choose-returns-then-is_true-clause-gives
 choose-returns-then-is_true-clause-gives g t c =
-    rw (branch_taken c.args.budget (g.R.Roots.meanings c.args.roots.now) (g.R.Roots.meanings c.loop-branch.roots) c.loop-branch.invariant.2 (called (macros_by c.args.arena.now c.args.macros.now) c.args.left) (arguments_of c.args.arena.now.exprs c.args.frame.now) (expr_of c.args.arena.now.exprs) (item_of c.args.arena.now) c.args.branches.now (items_made (item_of c.args.arena.now) c.args.otherwise.now) c.loop-branch.branch-index c.branch-item.result c.branch-item.is c.loop-branch-test.true (scene_of c.loop-branch.run, g.R.Roots.kept c.loop-branch.roots) (scene_of c.args.run.now, g.R.Roots.kept c.args.roots.now) c.loop-branch.invariant.0 c.in_ok-v.v (scene_of c.eval.new.run, g.R.Roots.kept c.eval.new.roots) (g.R.Roots.meanings c.eval.new.roots) (c.in_ok-v.ensures.same ∙ c.loop-branch.invariant.2) c.in_ok-v.ensures.gives (sym c.if-is_true.ensures))
+    rw (branch_taken c.args.budget (g.R.Roots.meanings c.args.roots.now) (g.R.Roots.meanings c.loop-branch.roots) c.loop-branch.invariant.2 (called (macros_by c.args.arena.now c.args.macros.now) c.args.left) (arguments_of c.args.arena.now.exprs c.args.frame.now) (expr_of c.args.arena.now.exprs) (item_of c.args.arena.now) c.args.branches.now (items_made (item_of c.args.arena.now) c.args.otherwise.now) c.loop-branch.branch-index c.branch-item.result c.branch-item.is c.loop-branch-test.true (scene_of c.loop-branch.run, g.R.Roots.kept c.loop-branch.roots) (scene_of c.args.run.now, g.R.Roots.kept c.args.roots.now) c.loop-branch.invariant.0 c.in_ok-v.v (scene_of c.eval.new.run, g.R.Roots.kept c.loop-branch.roots) (g.R.Roots.meanings c.loop-branch.roots) (c.loop-branch.invariant.2) c.in_ok-v.ensures (sym c.if-is_true.ensures))
     (rw c.deref.ensures.value at c.run_items.ensures.gives)
 
 pub choose-loop-branch-preserved : goal.choose-loop-branch-preserved
 choose-loop-branch-preserved g t c =
-    (branch_passed c.args.budget (g.R.Roots.meanings c.args.roots.now) (g.R.Roots.meanings c.loop-branch.roots) c.loop-branch.invariant.2 (called (macros_by c.args.arena.now c.args.macros.now) c.args.left) (arguments_of c.args.arena.now.exprs c.args.frame.now) (expr_of c.args.arena.now.exprs) (item_of c.args.arena.now) c.args.branches.now (items_made (item_of c.args.arena.now) c.args.otherwise.now) c.loop-branch.branch-index c.branch-item.result c.branch-item.is c.loop-branch-test.true (scene_of c.loop-branch.run, g.R.Roots.kept c.loop-branch.roots) (scene_of c.args.run.now, g.R.Roots.kept c.args.roots.now) c.loop-branch.invariant.0 c.in_ok-v.v (scene_of c.eval.new.run, g.R.Roots.kept c.eval.new.roots) c.in_ok-v.ensures.gives (sym c.if-is_true.ensures), all_next (BranchBelow (length c.args.arena.now.exprs) c.args.below) c.args.branches.now c.loop-branch.branch-index c.loop-branch.invariant.1, c.in_ok-v.ensures.same ∙ c.loop-branch.invariant.2)
+    (branch_passed c.args.budget (g.R.Roots.meanings c.args.roots.now) (g.R.Roots.meanings c.loop-branch.roots) c.loop-branch.invariant.2 (called (macros_by c.args.arena.now c.args.macros.now) c.args.left) (arguments_of c.args.arena.now.exprs c.args.frame.now) (expr_of c.args.arena.now.exprs) (item_of c.args.arena.now) c.args.branches.now (items_made (item_of c.args.arena.now) c.args.otherwise.now) c.loop-branch.branch-index c.branch-item.result c.branch-item.is c.loop-branch-test.true (scene_of c.loop-branch.run, g.R.Roots.kept c.loop-branch.roots) (scene_of c.args.run.now, g.R.Roots.kept c.args.roots.now) c.loop-branch.invariant.0 c.in_ok-v.v (scene_of c.eval.new.run, g.R.Roots.kept c.loop-branch.roots) c.in_ok-v.ensures (sym c.if-is_true.ensures), all_next (BranchBelow (length c.args.arena.now.exprs) c.args.below) c.args.branches.now c.loop-branch.branch-index c.loop-branch.invariant.1, c.loop-branch.invariant.2)
 
 pub run_call-returns-then-left-eq0-clause-gives : goal.run_call-returns-then-left-eq0-clause-gives
 run_call-returns-then-left-eq0-clause-gives g t c =

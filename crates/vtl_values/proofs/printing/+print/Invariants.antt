@@ -39,10 +39,12 @@ abbrev pub invariant-print_more-loop-item : goal.invariant-print_more-loop-item
 invariant-print_more-loop-item l = record {
   same : string_bytes l.text ++ more (all_printed (vals_of (drop l.item-index l.items))) ≡ string_bytes l.fn.text ++ more (all_printed (vals_of l.items));
   fits : length (string_bytes l.text) ≤ l.most;
+  longer : length (string_bytes l.fn.text) ≤ length (string_bytes l.text);
 }
 
 abbrev pub invariant-print_more_entries-loop-entry : goal.invariant-print_more_entries-loop-entry
 invariant-print_more_entries-loop-entry l = record {
   same : string_bytes l.text ++ more (entries_printed (rows_of (drop l.entry-index l.entries))) ≡ string_bytes l.fn.text ++ more (entries_printed (rows_of l.entries));
   fits : length (string_bytes l.text) ≤ l.most;
+  longer : length (string_bytes l.fn.text) ≤ length (string_bytes l.text);
 }

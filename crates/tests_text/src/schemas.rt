@@ -1,7 +1,8 @@
 // Schemas and values, with the verdicts that draft 4 gives them.
-use super::*;
 use json_subset::Json;
+use schema_draft4::{Schema, SchemaFault, Verdict};
 use std::alloc::{AllocError, Global};
+use std::process::Abort;
 use std::test::Fail;
 
 fn told(alloc: Global, verdict: Verdict) -> Result<String, AllocError> {
@@ -11,23 +12,28 @@ fn told(alloc: Global, verdict: Verdict) -> Result<String, AllocError> {
     }
 }
 
+fn named_told(alloc: Global, what: &str, name: &str) -> Result<String, AllocError> {
+    format!(in alloc; "{what} {name}")
+}
+
 fn fault_told(alloc: Global, fault: &SchemaFault) -> Result<String, AllocError> {
     match fault {
         SchemaFault::BadKeyword(_) => String::from_str(alloc, "BadKeyword"),
         SchemaFault::BadPattern(_) => String::from_str(alloc, "BadPattern"),
-        SchemaFault::Unsupported(name) => {
-            let name = name.as_str();
-            format!(in alloc; "Unsupported {name}")
-        }
-        SchemaFault::RefMissing(name) => {
-            let name = name.as_str();
-            format!(in alloc; "RefMissing {name}")
-        }
-        SchemaFault::RefCycle(name) => {
-            let name = name.as_str();
-            format!(in alloc; "RefCycle {name}")
-        }
+        SchemaFault::Unsupported(name) => named_told(alloc, "Unsupported", name.as_str()),
+        SchemaFault::RefMissing(name) => named_told(alloc, "RefMissing", name.as_str()),
+        SchemaFault::RefCycle(name) => named_told(alloc, "RefCycle", name.as_str()),
         SchemaFault::Memory => String::from_str(alloc, "Memory"),
+    }
+}
+
+fn checked(alloc: Global, schema: &Schema, value: &str) -> Result<String, AllocError> {
+    match Json::read(alloc, value.as_bytes()) {
+        Err(_) => String::from_str(alloc, "no JSON"),
+        Ok(value) => match schema.check(alloc, &value) {
+            Ok(verdict) => told(alloc, verdict),
+            Err(_) => String::from_str(alloc, "Memory"),
+        },
     }
 }
 
@@ -36,13 +42,7 @@ fn answer(alloc: Global, schema: &str, value: &str) -> Result<String, AllocError
         Err(_) => String::from_str(alloc, "no JSON"),
         Ok(doc) => match Schema::read(alloc, &doc, doc.root()) {
             Err(fault) => fault_told(alloc, &fault),
-            Ok(schema) => match Json::read(alloc, value.as_bytes()) {
-                Err(_) => String::from_str(alloc, "no JSON"),
-                Ok(value) => match schema.check(alloc, &value) {
-                    Ok(verdict) => told(alloc, verdict),
-                    Err(_) => String::from_str(alloc, "Memory"),
-                },
-            },
+            Ok(schema) => checked(alloc, &schema, value),
         },
     }
 }
@@ -264,84 +264,66 @@ const REFERENCES: [[&str; 3]; 8] = [
     ],
 ];
 
-#[test]
-fn numbers_meet_their_bounds(rt: HostRuntime) -> Result<(), Fail> {
-    for [schema, value, want] in &NUMBERS {
-        let got = answer(rt.alloc(), schema, value)?;
+fn have_answers(rt: &impl Abort, alloc: Global, rows: &[[&str; 3]]) -> Result<(), Fail> {
+    for [schema, value, want] in rows {
+        let got = answer(alloc, schema, value)?;
         assert_eq!(rt; got.as_str(), *want, "at {schema}");
     }
     Ok(())
+}
+
+#[test]
+fn numbers_meet_their_bounds(rt: HostRuntime) -> Result<(), Fail> {
+    have_answers(&rt, rt.alloc(), &NUMBERS)
 }
 
 #[test]
 fn texts_and_lists_meet_theirs(rt: HostRuntime) -> Result<(), Fail> {
-    for [schema, value, want] in &TEXTS_AND_LISTS {
-        let got = answer(rt.alloc(), schema, value)?;
-        assert_eq!(rt; got.as_str(), *want, "at {schema}");
-    }
-    Ok(())
+    have_answers(&rt, rt.alloc(), &TEXTS_AND_LISTS)
 }
 
 #[test]
 fn objects_meet_theirs(rt: HostRuntime) -> Result<(), Fail> {
-    for [schema, value, want] in &OBJECTS {
-        let got = answer(rt.alloc(), schema, value)?;
-        assert_eq!(rt; got.as_str(), *want, "at {schema}");
-    }
-    Ok(())
+    have_answers(&rt, rt.alloc(), &OBJECTS)
 }
 
 #[test]
 fn values_are_of_a_kind_or_a_set(rt: HostRuntime) -> Result<(), Fail> {
-    for [schema, value, want] in &VALUES {
-        let got = answer(rt.alloc(), schema, value)?;
-        assert_eq!(rt; got.as_str(), *want, "at {schema}");
-    }
-    Ok(())
+    have_answers(&rt, rt.alloc(), &VALUES)
 }
 
 #[test]
 fn schemas_are_combined(rt: HostRuntime) -> Result<(), Fail> {
-    for [schema, value, want] in &COMBINED {
-        let got = answer(rt.alloc(), schema, value)?;
-        assert_eq!(rt; got.as_str(), *want, "at {schema}");
-    }
-    Ok(())
+    have_answers(&rt, rt.alloc(), &COMBINED)
 }
 
 #[test]
 fn schemas_are_refused(rt: HostRuntime) -> Result<(), Fail> {
-    for [schema, value, want] in &REFUSED {
-        let got = answer(rt.alloc(), schema, value)?;
-        assert_eq!(rt; got.as_str(), *want, "at {schema}");
-    }
-    Ok(())
+    have_answers(&rt, rt.alloc(), &REFUSED)
 }
 
 #[test]
 fn references_are_followed_or_refused(rt: HostRuntime) -> Result<(), Fail> {
-    for [schema, value, want] in &REFERENCES {
-        let got = answer(rt.alloc(), schema, value)?;
-        assert_eq!(rt; got.as_str(), *want, "at {schema}");
-    }
-    Ok(())
+    have_answers(&rt, rt.alloc(), &REFERENCES)
 }
 
-// A thousand definitions, each `allOf` of the next one twice.
-#[test]
-fn doubling_definitions_are_checked_at_once(rt: HostRuntime) -> Result<(), Fail> {
-    let mut text = String::from_str(
-        rt.alloc(),
-        "{\"$ref\":\"#/definitions/d0\",\"definitions\":{",
-    )?;
+// The text of a schema of a thousand definitions, each `allOf` of the next one twice.
+fn doubling_definitions(alloc: Global) -> Result<String, AllocError> {
+    let mut text = String::from_str(alloc, "{\"$ref\":\"#/definitions/d0\",\"definitions\":{")?;
     for k in 0..1000 {
         let next = k + 1;
-        let one = format!(in rt.alloc();
+        let one = format!(in alloc;
             "\"d{k}\":{{\"allOf\":[{{\"$ref\":\"#/definitions/d{next}\"}},{{\"$ref\":\"#/definitions/d{next}\"}}]}},"
         )?;
         text.push_str(one.as_str())?;
     }
     text.push_str("\"d1000\":{\"minimum\":3}}}")?;
+    Ok(text)
+}
+
+#[test]
+fn doubling_definitions_are_checked_at_once(rt: HostRuntime) -> Result<(), Fail> {
+    let text = doubling_definitions(rt.alloc())?;
     let below = answer(rt.alloc(), text.as_str(), "2")?;
     assert_eq!(rt; below.as_str(), "Minimum");
     let above = answer(rt.alloc(), text.as_str(), "[3]")?;

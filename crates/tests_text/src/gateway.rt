@@ -1,8 +1,11 @@
-use crate::{Overrides, RequestRoots, ResponseRoots};
-use call_facts::{CallFacts, Claims, Kind, Refusal, Request, Vars, WireReply};
+// Templates over the values of a call.
+use call_facts::{CallFacts, Kind, Request, Target, Vars, WireReply};
+use gateway_vars::{Overrides, RequestRoots, ResponseRoots};
 use gw_base::{Bytes, Memory, Name, Seq, Shared, Text};
+use policy_core::Policy;
 use resource_tree::Found;
 use std::alloc::Global;
+use std::test::Fail;
 use vtl_eval::{Roots, render};
 use vtl_reader::Template;
 
@@ -60,8 +63,8 @@ fn facts(alloc: Global) -> Result<CallFacts, Memory> {
         )?,
         resource: text(alloc, "/p/{path}")?,
         key: None,
-        claims: None,
-        refusal: None,
+        policy: None,
+        error: None,
     })
 }
 
@@ -69,19 +72,21 @@ fn facts(alloc: Global) -> Result<CallFacts, Memory> {
 fn asked<'a>(
     alloc: Global,
     request: &'a Request,
+    target: &'a Target,
     found: &'a Found,
     facts: &'a CallFacts,
 ) -> Result<RequestRoots<'a>, Memory> {
     if facts.at >= 4_102_444_800_000 {
         return Err(Memory);
     }
-    RequestRoots::new(alloc, request, found, facts)
+    RequestRoots::new(alloc, request, target, found, facts)
 }
 
 // The roots of a reply to it.
 fn replied<'a>(
     alloc: Global,
     request: &'a Request,
+    target: &'a Target,
     found: &'a Found,
     facts: &'a CallFacts,
     reply: &'a WireReply,
@@ -89,7 +94,7 @@ fn replied<'a>(
     if facts.at >= 4_102_444_800_000 {
         return Err(Memory);
     }
-    ResponseRoots::new(alloc, request, found, facts, reply)
+    ResponseRoots::new(alloc, request, target, found, facts, reply)
 }
 
 // The text of a template over these roots.
@@ -103,70 +108,72 @@ fn printed<R: Roots>(alloc: Global, template: &str, roots: &mut R) -> Result<Tex
     }
 }
 
+const PRINTED: [(&str, &str); 18] = [
+    (
+        "$input.json('$.a')|$input.json('$.b')",
+        "[1,2.50,\"é\"]|\"\"",
+    ),
+    ("$input.json('$.a[*]')", "[1,2.50,\"é\"]"),
+    ("$input.path('$.a[1]')|$!input.path('$.b')|", "2.50||"),
+    ("$input.path('$.*')", "[[1, 2.50, é]]"),
+    ("$input.body", BODY),
+    (
+        "$input.params('path')|$input.params('x')|$input.params('X-a')|$input.params('n')|",
+        "q|1|one||",
+    ),
+    (
+        "$input.params()",
+        "{path={path=q}, querystring={x=1, y=a b, path=no}, header={x-a=one, user-agent=t}}",
+    ),
+    (
+        "$util.escapeJavaScript(\"it's\").replaceAll(\"\\\\'\",\"'\")",
+        "it's",
+    ),
+    ("$util.escapeJavaScript('é😀/')", "\\u00E9\\uD83D\\uDE00\\/"),
+    (
+        "$util.urlEncode('a b/é')|$util.urlDecode('a+b%2F')",
+        "a+b%2F%C3%A9|a b/",
+    ),
+    (
+        "$util.base64Encode('ab')|$util.base64Decode('YWI=')|$!util.base64Decode('YWI')|",
+        "YWI=|ab||",
+    ),
+    ("$util.parseJson('{\"k\":[true,null]}').k", "[true, null]"),
+    (
+        "$stageVariables.env/$context.requestId",
+        "x/0000000000000003",
+    ),
+    ("$stageVariables['env']$!stageVariables.none|", "x|"),
+    (
+        "$context.apiId $context.stage $context.httpMethod $context.path $context.resourcePath",
+        "t v1 POST /v1/p/q /p/{path}",
+    ),
+    (
+        "$context.deploymentId $context.isCanaryRequest $context.requestTimeEpoch",
+        "12 false 1700000000000",
+    ),
+    (
+        "$context.identity.sourceIp $context.identity.userAgent $!context.identity.apiKeyId|",
+        "127.0.0.1 t |",
+    ),
+    (
+        "$!context.authorizer.principalId$!context.error.message|",
+        "|",
+    ),
+];
+
 #[test]
-fn a_request_template_has_the_values_of_the_table(rt: HostRuntime) {
-    let rows = [
-        (
-            "$input.json('$.a')|$input.json('$.b')",
-            "[1,2.50,\"é\"]|\"\"",
-        ),
-        ("$input.json('$.a[*]')", "[1,2.50,\"é\"]"),
-        ("$input.path('$.a[1]')|$!input.path('$.b')|", "2.50||"),
-        ("$input.path('$.*')", "[[1, 2.50, é]]"),
-        ("$input.body", BODY),
-        (
-            "$input.params('path')|$input.params('x')|$input.params('X-a')|$input.params('n')|",
-            "q|1|one||",
-        ),
-        (
-            "$input.params()",
-            "{path={path=q}, querystring={x=1, y=a b, path=no}, header={x-a=one, user-agent=t}}",
-        ),
-        (
-            "$util.escapeJavaScript(\"it's\").replaceAll(\"\\\\'\",\"'\")",
-            "it's",
-        ),
-        ("$util.escapeJavaScript('é😀/')", "\\u00E9\\uD83D\\uDE00\\/"),
-        (
-            "$util.urlEncode('a b/é')|$util.urlDecode('a+b%2F')",
-            "a+b%2F%C3%A9|a b/",
-        ),
-        (
-            "$util.base64Encode('ab')|$util.base64Decode('YWI=')|$!util.base64Decode('YWI')|",
-            "YWI=|ab||",
-        ),
-        ("$util.parseJson('{\"k\":[true,null]}').k", "[true, null]"),
-        (
-            "$stageVariables.env/$context.requestId",
-            "x/0000000000000003",
-        ),
-        ("$stageVariables['env']$!stageVariables.none|", "x|"),
-        (
-            "$context.apiId $context.stage $context.httpMethod $context.path $context.resourcePath",
-            "t v1 POST /v1/p/q /p/{path}",
-        ),
-        (
-            "$context.deploymentId $context.isCanaryRequest $context.requestTimeEpoch",
-            "12 false 1700000000000",
-        ),
-        (
-            "$context.identity.sourceIp $context.identity.userAgent $!context.identity.apiKeyId|",
-            "127.0.0.1 t |",
-        ),
-        (
-            "$!context.authorizer.principalId$!context.error.message|",
-            "|",
-        ),
-    ];
+fn a_request_template_has_the_values_of_the_table(rt: HostRuntime) -> Result<(), Fail> {
     let alloc = rt.alloc();
-    let request = request(alloc).expect(&rt, "memory");
-    let found = found(alloc).expect(&rt, "memory");
-    let facts = facts(alloc).expect(&rt, "memory");
-    for (template, prints) in rows.iter() {
-        let mut roots = asked(alloc, &request, &found, &facts).expect(&rt, "memory");
-        let made = printed(alloc, template, &mut roots).expect(&rt, "rendering");
-        assert_eq!(rt; made.as_str(), *prints);
+    let request = request(alloc)?;
+    let found = found(alloc)?;
+    let facts = facts(alloc)?;
+    for (template, prints) in &PRINTED {
+        let mut roots = asked(alloc, &request, &target, &found, &facts)?;
+        let made = printed(alloc, template, &mut roots)?;
+        assert_eq!(rt; made.as_str(), *prints, "at {template}");
     }
+    Ok(())
 }
 
 fn header_of(changes: &Overrides, i: usize) -> (&str, &str) {
@@ -180,9 +187,10 @@ fn header_of(changes: &Overrides, i: usize) -> (&str, &str) {
 fn the_last_write_of_a_name_stands_in_the_place_of_its_first(rt: HostRuntime) {
     let alloc = rt.alloc();
     let request = request(alloc).expect(&rt, "memory");
+    let target = Target::read(alloc, request.target.as_str()).expect(&rt, "memory");
     let found = found(alloc).expect(&rt, "memory");
     let facts = facts(alloc).expect(&rt, "memory");
-    let mut roots = asked(alloc, &request, &found, &facts).expect(&rt, "memory");
+    let mut roots = asked(alloc, &request, &target, &found, &facts).expect(&rt, "memory");
     let template =
         "#set($context.requestOverride.header.Accept = 'a')#set($context.requestOverride.header.b = 2)#set($context.requestOverride.header.Accept = [1, 2])#set($context.stage = 'w')$context.stage";
     let made = printed(alloc, template, &mut roots).expect(&rt, "rendering");
@@ -197,6 +205,7 @@ fn the_last_write_of_a_name_stands_in_the_place_of_its_first(rt: HostRuntime) {
 fn a_response_template_sees_the_reply(rt: HostRuntime) {
     let alloc = rt.alloc();
     let request = request(alloc).expect(&rt, "memory");
+    let target = Target::read(alloc, request.target.as_str()).expect(&rt, "memory");
     let found = found(alloc).expect(&rt, "memory");
     let facts = facts(alloc).expect(&rt, "memory");
     let reply = WireReply {
@@ -204,7 +213,7 @@ fn a_response_template_sees_the_reply(rt: HostRuntime) {
         headers: pairs(alloc, &[]).expect(&rt, "memory"),
         body: bytes(alloc, "{\"id\":55}").expect(&rt, "memory"),
     };
-    let mut roots = replied(alloc, &request, &found, &facts, &reply).expect(&rt, "memory");
+    let mut roots = replied(alloc, &request, &target, &found, &facts, &reply).expect(&rt, "memory");
     let template =
         "$input.json('$.id') $input.params('x')#set($context.responseOverride.status = 404)";
     let made = printed(alloc, template, &mut roots).expect(&rt, "rendering");
@@ -220,18 +229,24 @@ fn a_response_template_sees_the_reply(rt: HostRuntime) {
 fn the_caller_and_the_refusal_have_values(rt: HostRuntime) {
     let alloc = rt.alloc();
     let request = request(alloc).expect(&rt, "memory");
+    let target = Target::read(alloc, request.target.as_str()).expect(&rt, "memory");
     let found = found(alloc).expect(&rt, "memory");
     let mut facts = facts(alloc).expect(&rt, "memory");
     facts.key = Some(Name::of("k1"));
-    facts.claims = Some(Claims {
-        principal: text(alloc, "u7").expect(&rt, "memory"),
-        context: pairs(alloc, &[("team", "red"), ("principalId", "no")]).expect(&rt, "memory"),
-    });
-    facts.refusal = Some(Refusal {
-        kind: Kind::Throttled,
-        message: text(alloc, "Too \"Many\"\n\u{1}/é").expect(&rt, "memory"),
-    });
-    let mut roots = asked(alloc, &request, &found, &facts).expect(&rt, "memory");
+    facts.policy = Some(Shared::new(
+        alloc,
+        Policy {
+            principal: text(alloc, "u7").expect(&rt, "memory"),
+            statements: Seq::new(alloc),
+            context: pairs(alloc, &[("team", "red"), ("principalId", "no")]).expect(&rt, "memory"),
+        },
+    )
+    .expect(&rt, "memory"));
+    facts.error = Some((
+        Kind::Throttled,
+        text(alloc, "Too \"Many\"\n\u{1}/é").expect(&rt, "memory"),
+    ));
+    let mut roots = asked(alloc, &request, &target, &found, &facts).expect(&rt, "memory");
     let template =
         "$context.identity.apiKeyId $context.authorizer.principalId $context.authorizer.team$!context.authorizer.none $context.error.responseType $context.error.messageString";
     let made = printed(alloc, template, &mut roots).expect(&rt, "rendering");

@@ -1,14 +1,13 @@
-ghost use Rattle.std.specs.Prelude.{◌<◌, codes};
-
-use crate::{Root, Roots, Step, Stop, render};
+// Templates with macros: what they print and how many steps that takes.
 use gw_base::{Memory, Text};
 use std::alloc::Global;
 use std::rc::RcStr;
 use std::test::Fail;
+use vtl_eval::{Root, Roots, Step, render};
 use vtl_reader::Template;
 use vtl_values::Value;
 
-/// Roots whose every value is the text `B`, and to which nothing is written.
+// Roots whose every value is the text `B`, and to which nothing is written.
 #[derive(Drop)]
 struct Letter;
 
@@ -29,7 +28,7 @@ impl Roots for Letter {
     }
 }
 
-/// What is printed of a template: its text with its steps, its fault, or why it stops.
+// What is printed of a template: its text with its steps, its fault, or why it stops.
 fn told(alloc: Global, text: &str) -> Result<String, Fail> {
     let template = match Template::read(alloc, text) {
         Ok(template) => template,
@@ -112,24 +111,36 @@ fn macros_are_rendered(rt: HostRuntime) -> Result<(), Fail> {
     Ok(())
 }
 
-/// As many macros as `count`, each with the next one's call so many times in its body, and the last with this body; and
-/// a call of the first.
+// As many macros as `count`, each with the next one's call so many times in its body, and the last with this body; and
+// a call of the first.
 fn chain(alloc: Global, count: u32, times: u32, last: &str) -> Result<String, Fail> {
     let mut text = String::new(alloc);
     for n in 0..count {
         text.push_str(&format!(in alloc; "#macro(m{n})")?)?;
-        if n as u64 + 1 < count as u64 {
-            for _ in 0..times {
-                let next = n as u64 + 1;
-                text.push_str(&format!(in alloc; "#m{next}()")?)?;
-            }
-        } else {
-            text.push_str(last)?;
-        }
+        push_body(alloc, &mut text, n as u64 + 1, count, times, last)?;
         text.push_str("#end")?;
     }
     text.push_str("#m0()")?;
     Ok(text)
+}
+
+// The calls of the next macro, or the last body.
+fn push_body(
+    alloc: Global,
+    text: &mut String,
+    next: u64,
+    count: u32,
+    times: u32,
+    last: &str,
+) -> Result<(), Fail> {
+    if next >= count as u64 {
+        text.push_str(last)?;
+        return Ok(());
+    }
+    for _ in 0..times {
+        text.push_str(&format!(in alloc; "#m{next}()")?)?;
+    }
+    Ok(())
 }
 
 #[test]

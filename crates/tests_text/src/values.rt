@@ -1,10 +1,11 @@
-use crate::{
+// Values: printed, counted and joined by operators.
+use std::alloc::Global;
+use std::rc::RcStr;
+use vtl_values::{
     Lack, ListMaker, MapMaker, Value, View, add, at_least, at_most, divide, entry_count, entry_key,
     entry_value, equal, greater, item_at, less, list_item, list_length, loop_item, loop_length,
     member, multiply, print, ranged, remainder, size, subtract,
 };
-use std::alloc::Global;
-use std::rc::RcStr;
 
 fn text(alloc: Global, bytes: &str) -> Result<Value, Lack> {
     let bytes = RcStr::from_str(alloc, bytes)?;
@@ -69,12 +70,14 @@ fn a_value_prints_within_its_room(rt: HostRuntime) {
             Err(Lack::Room)
         )
     );
-    assert_eq!(rt;
-        sample_parts(alloc).expect(&rt, "memory").as_str(),
-        "[2.50, null, 3, 3, 8, [1, 2]]"
-    );
     assert_eq!(rt; value.bytes(), 3);
     assert_eq!(rt; value.depth(), 3);
+}
+
+#[test]
+fn parts_are_printed(rt: HostRuntime) {
+    let parts = sample_parts(rt.alloc()).expect(&rt, "memory");
+    assert_eq!(rt; parts.as_str(), "[2.50, null, 3, 3, 8, [1, 2]]");
 }
 
 // What is between quotes is a text; what has a point is a number by its source.
@@ -115,38 +118,38 @@ fn applied(alloc: Global, a: &str, operator: &str, b: &str) -> Result<String, La
     printed(alloc, &value, 1000)
 }
 
+const OPERATIONS: [(&str, &str, &str, &str); 24] = [
+    ("9223372036854775806", "+", "1", "9223372036854775807"),
+    ("9223372036854775807", "+", "1", "null"),
+    ("true", "+", "'a", "truea"),
+    ("[1]", "+", "'a", "[1]a"),
+    ("null", "+", "'a", "null"),
+    ("2.50", "+", "1", "null"),
+    ("1", "-", "3", "-2"),
+    ("3037000500", "*", "3037000500", "null"),
+    ("7", "/", "-2", "-3"),
+    ("7", "/", "0", "null"),
+    ("-9223372036854775808", "/", "-1", "null"),
+    ("-7", "%", "2", "-1"),
+    ("-9223372036854775808", "%", "-1", "0"),
+    ("1", "<", "2", "true"),
+    ("1", ">", "2", "false"),
+    ("2", "<=", "2", "true"),
+    ("1", ">=", "2", "false"),
+    ("1", "<", "'2", "null"),
+    ("2.50", "==", "'2.50", "true"),
+    ("1", "==", "'1", "true"),
+    ("[1]", "==", "'[1]", "true"),
+    ("null", "==", "'null", "false"),
+    ("null", "==", "null", "true"),
+    ("true", "==", "1", "false"),
+];
+
 #[test]
 fn operators_give_what_the_guide_says(rt: HostRuntime) {
-    let alloc = rt.alloc();
-    let rows = [
-        ("9223372036854775806", "+", "1", "9223372036854775807"),
-        ("9223372036854775807", "+", "1", "null"),
-        ("true", "+", "'a", "truea"),
-        ("[1]", "+", "'a", "[1]a"),
-        ("null", "+", "'a", "null"),
-        ("2.50", "+", "1", "null"),
-        ("1", "-", "3", "-2"),
-        ("3037000500", "*", "3037000500", "null"),
-        ("7", "/", "-2", "-3"),
-        ("7", "/", "0", "null"),
-        ("-9223372036854775808", "/", "-1", "null"),
-        ("-7", "%", "2", "-1"),
-        ("-9223372036854775808", "%", "-1", "0"),
-        ("1", "<", "2", "true"),
-        ("1", ">", "2", "false"),
-        ("2", "<=", "2", "true"),
-        ("1", ">=", "2", "false"),
-        ("1", "<", "'2", "null"),
-        ("2.50", "==", "'2.50", "true"),
-        ("1", "==", "'1", "true"),
-        ("[1]", "==", "'[1]", "true"),
-        ("null", "==", "'null", "false"),
-        ("null", "==", "null", "true"),
-        ("true", "==", "1", "false"),
-    ];
-    for (a, operator, b, wanted) in rows {
-        let value = applied(alloc, a, operator, b).expect(&rt, "memory");
-        assert_eq!(rt; value.as_str(), wanted, "{a} {operator} {b}");
+    for (a, operator, b, wanted) in &OPERATIONS {
+        let value = applied(rt.alloc(), a, operator, b).expect(&rt, "memory");
+        assert_eq!(rt; value.as_str(), *wanted, "{a} {operator} {b}");
     }
 }
 
@@ -174,20 +177,23 @@ fn a_shared_list_is_never_spread_out(rt: HostRuntime) {
 }
 
 #[test]
-fn parts_are_lent_and_counted(rt: HostRuntime) {
-    let alloc = rt.alloc();
-    let map = sample(alloc).expect(&rt, "memory");
+fn parts_are_lent(rt: HostRuntime) {
+    let map = sample(rt.alloc()).expect(&rt, "memory");
     assert_eq!(rt; entry_count(&map), 2);
     assert_eq!(rt; entry_key(&map, 1).expect(&rt, "a key").as_str(), "b");
     let list = entry_value(&map, 1).expect(&rt, "a value");
     assert_eq!(rt; list_length(list), 4);
     assert!(rt; matches!(list.view(), View::List(items) if items.len() == 4));
-    assert!(rt; matches!(Value::range(3, 1).view(), View::Range(3, 1)));
     assert_eq!(rt;
         list_item(list, 0).as_text().expect(&rt, "a text").as_str(),
         "x"
     );
     assert_eq!(rt; size(&map), Some(2));
+}
+
+#[test]
+fn a_value_is_seen_by_its_kind(rt: HostRuntime) {
+    assert!(rt; matches!(Value::range(3, 1).view(), View::Range(3, 1)));
     assert_eq!(rt; size(&Value::range(i64::MIN, i64::MAX)), None);
     assert_eq!(rt; loop_length(&Value::range(1, 5000)), 1000);
     assert!(rt; Value::whole(0).is_true());

@@ -31,7 +31,7 @@ impl From<AllocError> for ReadAll {
 /// The most bytes that are asked for at a time.
 const CHUNK: usize = 4096;
 
-/// The whole input, to its end, where it is at most `limit` bytes long. The cost is linear in the input.
+/// The whole input, to its end, where it is at most `limit` bytes long.
 pub fn read_all<S: Source>(alloc: Global, source: &mut S, limit: usize) -> Result<Vec<u8>, ReadAll>
     ensures whole { IfOk result (λ v. IfSome (S.left source.old) (λ bytes. v.items ≡ bytes)) }
     ensures end { OnOk result (IsAtEnd (S.left source.new)) }

@@ -41,9 +41,9 @@
 //! what was taken holds no message and no fault. After every call what the source has left is the end of what it had.
 //! An answer's bytes are `spelled` of `specs/Answers.antt`, for every status.
 //!
-//! Left out: upgrades, `expect`, trailers, codings other than `chunked`. A head is looked at again only when a line ended,
-//! the limit came, or no more comes, and a used byte is not looked at again, so the time is linear in the bytes but for
-//! hostile heads. Not promised: how many reads a call makes.
+//! Left out: upgrades, `expect`, trailers, codings other than `chunked`. How it is built, not promised: a head is looked at
+//! again only when a line ended, the limit came, or no more comes, and a used byte is not looked at again. Nor is promised
+//! how many reads a call makes.
 #![tactic(auto)]
 
 mod answer;

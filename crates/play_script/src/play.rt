@@ -45,7 +45,7 @@ fn say_line<W: Sink>(
 }
 
 /// Plays a script in a session of these limits, from empty tables, and answers the status: 0 at its end, 1 at a line that
-/// is refused, 4 where the session is full. The cost is linear in the script and in what it prints.
+/// is refused, 4 where the session is full.
 pub fn play_within<W: Sink>(
     alloc: Global,
     limits: Limits,

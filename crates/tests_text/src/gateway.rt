@@ -166,6 +166,7 @@ const PRINTED: [(&str, &str); 18] = [
 fn a_request_template_has_the_values_of_the_table(rt: HostRuntime) -> Result<(), Fail> {
     let alloc = rt.alloc();
     let request = request(alloc)?;
+    let target = Target::read(alloc, request.target.as_str())?;
     let found = found(alloc)?;
     let facts = facts(alloc)?;
     for (template, prints) in &PRINTED {

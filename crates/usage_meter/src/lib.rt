@@ -36,7 +36,7 @@
 //! - [`Period::of`] is the period that holds the moment, by the calendar.
 //! - [`Allowance::at`] is exactly as the table says, at every moment.
 //! - [`laws`]: the one kept level is the least over all windows of admissions since the bucket began, every moment
-//!   lies in exactly one period of a kind, and more about the definitions alone.
+//!   before the year 2100 lies in exactly one period of a kind, and more about the definitions alone.
 #![tactic(auto)]
 
 mod allowance;

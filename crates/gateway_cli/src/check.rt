@@ -7,8 +7,8 @@ ghost use Rattle.play_script.specs.Play.{is_command_status};
 use crate::shown::{Shown, too_long};
 use api_model::{Api, ApiCause, ApiFault};
 use gw_base::{Bytes, Memory};
-use play_script::joined;
-use record_fields::{coded, field};
+use play_script::join;
+use record_fields::{encode, encode_field};
 use std::alloc::Global;
 
 #[tactic(auto, unfolding(crate::specs::Check::accepted))]
@@ -20,7 +20,7 @@ fn accept(alloc: Global, api: &Api) -> Result<Shown, Memory>
     let methods = api.methods().to_string(alloc)?;
     let models = api.models().to_string(alloc)?;
     Ok(Shown {
-        text: joined(
+        text: join(
             alloc,
             &[
                 "ok resources=",
@@ -42,10 +42,10 @@ fn refuse(alloc: Global, fault: &ApiFault) -> Result<Shown, Memory>
     ensures known { IfOk result (λ shown. is_command_status shown.status ≡ true) }
 {
     let cause = fault.cause.to_string(alloc)?;
-    let cause = coded(alloc, cause.as_str().as_bytes())?;
-    let place = field(alloc, fault.place.as_str().as_bytes())?;
+    let cause = encode(alloc, cause.as_str().as_bytes())?;
+    let place = encode_field(alloc, fault.place.as_str().as_bytes())?;
     Ok(Shown {
-        text: joined(
+        text: join(
             alloc,
             &["refused ", cause.as_str(), " at ", place.as_str(), "\n"],
         )?,

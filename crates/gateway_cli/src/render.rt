@@ -12,7 +12,7 @@ use crate::shown::{Shown, too_long};
 use call_facts::Target;
 use gw_base::{Bytes, Memory};
 use method_flow::render_text;
-use play_script::joined;
+use play_script::join;
 use std::alloc::Global;
 use vtl_eval::Stop;
 use vtl_grammar::TemplateFault;
@@ -24,7 +24,7 @@ fn refuse(alloc: Global, fault: &str) -> Result<Shown, Memory>
     ensures known { IfOk result (λ shown. is_command_status shown.status ≡ true) }
 {
     Ok(Shown {
-        text: joined(alloc, &["refused ", fault, " at ~", "\n"])?,
+        text: join(alloc, &["refused ", fault, " at ~", "\n"])?,
         status: 1,
     })
 }
@@ -36,7 +36,7 @@ fn tell_stop(alloc: Global, stop: Stop) -> Result<Shown, Memory>
 {
     let name = stop.to_string(alloc)?;
     Ok(Shown {
-        text: joined(alloc, &["stop ", name.as_str(), "\n"])?,
+        text: join(alloc, &["stop ", name.as_str(), "\n"])?,
         status: 1,
     })
 }

@@ -7,7 +7,7 @@ ghost use Rattle.play_script.specs.Printed.{refused_line as refused_line_of};
 ghost use Rattle.play_script.specs.Play.{commanded as commanded_of, put_text as put_text_of, IsCall, Does, IsTurn};
 ghost use Rattle.play_connection.specs.Serving.{taken as taken_of};
 
-use crate::connections::{post_bytes, talked};
+use crate::connections::{post_bytes, talk};
 use crate::fields::is_passed_over;
 use crate::outcomes::are_outcomes;
 use crate::printed::{full_line, refused_line, reply_line};
@@ -134,7 +134,7 @@ fn call(
     ensures base { book.new.base ≡ book.old.base }
 {
     if are_outcomes(alloc, outcomes)? {
-        talked(book, alloc, moment, word, bytes)
+        talk(book, alloc, moment, word, bytes)
     } else {
         refuse(alloc, number, LineFault::BadRecord)
     }
@@ -168,7 +168,7 @@ fn carry_out(book: &mut Book, alloc: Global, number: u64, found: Record) -> Resu
             body,
         } => {
             let bytes = post_bytes(alloc, api.as_str(), stage.as_str(), body.as_str())?;
-            talked(book, alloc, moment, word, bytes.as_str().as_bytes())
+            talk(book, alloc, moment, word, bytes.as_str().as_bytes())
         }
         Record::Call {
             moment,

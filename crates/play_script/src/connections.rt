@@ -4,20 +4,20 @@ ghost use Rattle.book_core.specs.Rows.{no_rows};
 ghost use Rattle.play_script.specs.Calls.{post_target as post_target_of, post_fields as post_fields_of, post_bytes as post_bytes_of, answer_line as answer_line_of, full_lines as full_lines_of, connection_lines as connection_lines_of, end_of as end_of_connection};
 ghost use Rattle.play_script.specs.Play.{IsTalk};
 
-use crate::joining::joined;
+use crate::joining::join;
 use crate::printed::full_line;
 use crate::turns::{End, Said};
 use book_core::Book;
 use gw_base::{Memory, Text};
 use play_connection::{Ended, SessionFull, connect};
-use record_fields::coded;
+use record_fields::encode;
 use std::alloc::Global;
 
 #[tactic(auto, unfolding(crate::specs::Calls::post_target))]
 fn post_target(alloc: Global, api: &str, stage: &str) -> Result<Text, Memory>
     ensures { IfOk result (λ text. text ≡ post_target_of api.now stage.now) }
 {
-    joined(alloc, &["POST /", api, "/", stage])
+    join(alloc, &["POST /", api, "/", stage])
 }
 
 #[tactic(auto, unfolding(crate::specs::Calls::post_fields))]
@@ -25,7 +25,7 @@ fn post_fields(alloc: Global, length: usize) -> Result<Text, Memory>
     ensures { IfOk result (λ text. text ≡ post_fields_of length) }
 {
     let length = length.to_string(alloc)?;
-    joined(
+    join(
         alloc,
         &[
             " HTTP/1.1\r\nhost: localhost\r\ncontent-length: ",
@@ -53,8 +53,8 @@ fn answer_line(alloc: Global, written: &[u8]) -> Result<Text, Memory>
     match written {
         [] => Ok(Text::of(String::new(alloc))),
         [_, ..] => {
-            let bytes = coded(alloc, written)?;
-            joined(alloc, &["answer ", bytes.as_str(), "\n"])
+            let bytes = encode(alloc, written)?;
+            join(alloc, &["answer ", bytes.as_str(), "\n"])
         }
     }
 }
@@ -78,7 +78,7 @@ fn connection_lines(alloc: Global, written: &[u8], ended: Ended) -> Result<Text,
     let answer = answer_line(alloc, written)?;
     let name = ended.to_string(alloc)?;
     let full = full_lines(alloc, ended)?;
-    joined(
+    join(
         alloc,
         &[
             answer.as_str(),
@@ -102,7 +102,7 @@ fn end_of(ended: Ended) -> Option<End>
 }
 
 /// Serves a connection, and prints what was written on it and how it ended.
-pub fn talked(
+pub fn talk(
     book: &mut Book,
     alloc: Global,
     moment: u64,

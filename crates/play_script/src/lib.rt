@@ -23,7 +23,7 @@
 //! What is promised: what is written is `Plays` of `specs/Play.antt` to the byte, a definition that speaks of every script,
 //! or a front of it where a write is refused or memory is wanting; `specs/Coding.antt` says which lines it has,
 //! `specs/Records.antt` which records they are, and `specs/Printed.antt` and `specs/Calls.antt` what is printed.
-//! [`joined`] puts parts of a line together. Fields are coded and read by `record_fields`.
+//! [`join`] puts parts of a line together. Fields are coded and read by `record_fields`.
 #![tactic(auto)]
 
 mod calls;
@@ -37,5 +37,5 @@ mod reading;
 mod records;
 mod turns;
 
-pub use joining::joined;
+pub use joining::join;
 pub use play::play_within;

@@ -2,7 +2,7 @@
 ghost use Rattle.std.specs.Prelude.{◌≡◌, ◌<◌, ◌^◌, IfOk};
 ghost use Rattle.play_script.specs.Printed.{reply_line as reply_line_of, line_fault as line_fault_of, refused_line as refused_line_of, full_line as full_line_of};
 
-use crate::joining::joined;
+use crate::joining::join;
 use crate::records::LineFault;
 use book_core::Reply;
 use gw_base::{Memory, Text};
@@ -14,16 +14,16 @@ pub fn reply_line(alloc: Global, reply: &Reply) -> Result<Text, Memory>
     ensures { IfOk result (λ line. line ≡ reply_line_of reply.now) }
 {
     match reply {
-        Reply::Done => joined(alloc, &["done", "\n"]),
+        Reply::Done => join(alloc, &["done", "\n"]),
         Reply::Deployed(number) => {
             let number = number.to_string(alloc)?;
-            joined(alloc, &["deployed ", number.as_str(), "\n"])
+            join(alloc, &["deployed ", number.as_str(), "\n"])
         }
         Reply::Refused(refusal) => {
             let name = refusal.to_string(alloc)?;
-            joined(alloc, &["refused ", name.as_str(), "\n"])
+            join(alloc, &["refused ", name.as_str(), "\n"])
         }
-        Reply::Store => joined(alloc, &["store", "\n"]),
+        Reply::Store => join(alloc, &["store", "\n"]),
         Reply::NoStage | Reply::Entered(_) | Reply::Left { .. } => Ok(Text::of(String::new(alloc))),
     }
 }
@@ -36,7 +36,7 @@ fn line_fault(alloc: Global, fault: LineFault) -> Result<Text, Memory>
         LineFault::NotBuilt => Ok(Text::of(String::from_str(alloc, "NotBuilt at ~")?)),
         LineFault::Template(fault) => {
             let fault = fault.to_string(alloc)?;
-            joined(alloc, &[fault.as_str(), " at /text"])
+            join(alloc, &[fault.as_str(), " at /text"])
         }
     }
 }
@@ -48,7 +48,7 @@ pub fn refused_line(alloc: Global, number: u64, fault: LineFault) -> Result<Text
 {
     let number = number.to_string(alloc)?;
     let fault = line_fault(alloc, fault)?;
-    joined(
+    join(
         alloc,
         &["refused line ", number.as_str(), " ", fault.as_str(), "\n"],
     )
@@ -61,7 +61,7 @@ pub fn full_line(alloc: Global, full: SessionFull) -> Result<Text, Memory>
 {
     let entries = full.entries.to_string(alloc)?;
     let bytes = full.bytes.to_string(alloc)?;
-    joined(
+    join(
         alloc,
         &["full ", entries.as_str(), " ", bytes.as_str(), "\n"],
     )

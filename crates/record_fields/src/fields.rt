@@ -46,7 +46,7 @@ fn are_escapes(field: &[u8]) -> bool
 
 // What a field stands for, where it has its form.
 #[tactic(auto, unfolding(crate::specs::Coding::decoded))]
-fn decoded(alloc: Global, field: &[u8]) -> Result<Option<Bytes>, AllocError>
+fn decode(alloc: Global, field: &[u8]) -> Result<Option<Bytes>, AllocError>
     ensures { IfOk result (λ bytes. bytes ≡ decoded_of field.now) }
 {
     if field == b"~".as_slice() {
@@ -71,7 +71,7 @@ fn all_of(alloc: Global, parts: &[&[u8]]) -> Result<Option<Vec<Bytes>>, AllocErr
 {
     let mut fields = Vec::new(alloc);
     for part in parts {
-        let Some(field) = decoded(alloc, part)? else {
+        let Some(field) = decode(alloc, part)? else {
             return Ok(None);
         };
         fields.push(field)?;

@@ -4,7 +4,7 @@
 //! let fields = fields_in(alloc, b"stage 0 hello v1 1 env=a%20b")?;    // Some: six fields
 //! number(b"1024")                       // Some(1024)
 //! pairs_in(alloc, &fields[5..])?        // Some: env and `a b`
-//! field(alloc, b"a b")?                 // a%20b
+//! encode_field(alloc, b"a b")?          // a%20b
 //! ```
 //!
 //! | Field | Stands for |
@@ -29,4 +29,4 @@ mod writing;
 pub use fields::{fields_in, text_of};
 pub use numbers::{number, small_number};
 pub use pairs::pairs_in;
-pub use writing::{coded, field};
+pub use writing::{encode, encode_field};

@@ -11,7 +11,7 @@ fn are_digits(field: &[u8]) -> bool
 
 // The number of some digits, where it fits.
 #[tactic(auto, using(crate::proofs::Digits::read_on_grows))]
-fn spelled(field: &[u8]) -> Option<u64>
+fn read_digits(field: &[u8]) -> Option<u64>
     requires { list_all is_decimal field.now ≡ true }
     ensures some { IfSome result (λ n. n ≡ read_on 0 field.now) }
     ensures none { IfNone result (2 ^ 64 ≤ read_on 0 field.now) }
@@ -37,7 +37,7 @@ pub fn number(field: &[u8]) -> Option<u64>
     if field.is_empty() || field.len() > 20 || !are_digits(field) {
         return None;
     }
-    spelled(field)
+    read_digits(field)
 }
 
 /// The number of a field of 1 to 20 digits, where it fits 32 bits.
@@ -48,7 +48,7 @@ pub fn small_number(field: &[u8]) -> Option<u32>
     if field.is_empty() || field.len() > 20 || !are_digits(field) {
         return None;
     }
-    match spelled(field) {
+    match read_digits(field) {
         Some(n) if n <= u32::MAX as u64 => Some(n as u32),
         _ => None,
     }

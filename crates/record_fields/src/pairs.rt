@@ -15,7 +15,7 @@ fn equals_at(field: &[u8]) -> Option<usize>
 }
 
 // What stands before the first `=` and behind it.
-fn parted(field: &[u8]) -> Option<(&[u8], &[u8])>
+fn part(field: &[u8]) -> Option<(&[u8], &[u8])>
     ensures { option_map (λ p. (p.0.now, p.1.now)) result ≡ parted_of field.now }
 {
     match equals_at(field) {
@@ -28,7 +28,7 @@ fn parted(field: &[u8]) -> Option<(&[u8], &[u8])>
 fn pair_in(alloc: Global, field: &[u8]) -> Result<Option<(Text, Text)>, Memory>
     ensures { IfOk result (λ pair. pair ≡ pair_of field.now) }
 {
-    let Some((name, value)) = parted(field) else {
+    let Some((name, value)) = part(field) else {
         return Ok(None);
     };
     let Some(name) = text_of(alloc, name)? else {

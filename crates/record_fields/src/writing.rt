@@ -8,7 +8,7 @@ use percent_encoding::percent_encode;
 use std::alloc::Global;
 
 /// Bytes in a line: each outside 33 to 126, and `%`, is coded.
-pub fn coded(alloc: Global, bytes: &[u8]) -> Result<Text, Memory>
+pub fn encode(alloc: Global, bytes: &[u8]) -> Result<Text, Memory>
     ensures { IfOk result (λ text. text ≡ coded_of bytes.now) }
 {
     let mut text = String::new(alloc);
@@ -17,11 +17,11 @@ pub fn coded(alloc: Global, bytes: &[u8]) -> Result<Text, Memory>
 }
 
 /// Bytes as a field of a line; of no bytes it is `~`.
-pub fn field(alloc: Global, bytes: &[u8]) -> Result<Text, Memory>
+pub fn encode_field(alloc: Global, bytes: &[u8]) -> Result<Text, Memory>
     ensures { IfOk result (λ text. text ≡ field_of bytes.now) }
 {
     match bytes {
         [] => Ok(Text::of(String::from_str(alloc, "~")?)),
-        [_, ..] => coded(alloc, bytes),
+        [_, ..] => encode(alloc, bytes),
     }
 }

@@ -15,7 +15,7 @@ ghost use Rattle.schema_rules.specs.Made.{AreWellMade, AllWellMade, IsWellMade};
 
 use crate::fault::SchemaFault;
 use crate::look::{entry_of, flag_at, text_at};
-use crate::read_test::read_test;
+use crate::read_keyword::read_test;
 use crate::reference::{reference_rule, unsupported};
 use crate::word::Word;
 use gw_base::Memory;

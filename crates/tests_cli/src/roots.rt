@@ -2,7 +2,7 @@
 use crate::renders::words;
 use gateway_cli::{MemOutside, run};
 use gw_base::{Bytes, MemSink, MemSource, Text};
-use record_fields::coded;
+use record_fields::encode;
 use std::alloc::Global;
 use std::test::Fail;
 
@@ -58,15 +58,15 @@ const ROOTS: [(&str, &str); 32] = [
 fn each_root_has_its_value(rt: HostRuntime) -> Result<(), Fail> {
     let alloc = rt.alloc();
     let play = words(alloc, &["play"])?;
-    let body = coded(alloc, BODY.as_bytes())?;
+    let body = encode(alloc, BODY.as_bytes())?;
     for (template, said) in &ROOTS {
-        let field = coded(alloc, template.as_bytes())?;
+        let field = encode(alloc, template.as_bytes())?;
         let (field, body) = (field.as_str(), body.as_str());
         let script = format!(in alloc;
             "text 0 t {field}\ndeploy 0 t\nstage 0 t v1 1 env=x\npost 7 0 t v1 {body}\n"
         )?;
         let length = said.len();
-        let printed = coded(alloc, said.as_bytes())?;
+        let printed = encode(alloc, said.as_bytes())?;
         let printed = printed.as_str();
         let answer = format!(in alloc;
             "done\ndeployed 1\ndone\nanswer HTTP/1.1%20200%20OK%0D%0Acontent-type:%20text/plain%0D%0Acontent-length:%20{length}%0D%0A%0D%0A{printed}\nended Closed\n"

@@ -1,7 +1,7 @@
 use Rattle.std.proofs.Common.{◌≡◌, true, drop}
 use Rattle.std.specs.List.{list_all}
 use Rattle.record_fields.specs.Numbers.{read_on, is_decimal}
-use Rattle.record_fields.proofs.numbers.spelled.Given as goal
+use Rattle.record_fields.proofs.numbers.read_digits.Given as goal
 
 -- the number so far goes on to the whole one
 abbrev pub invariant-loop-digit : goal.invariant-loop-digit

@@ -5,7 +5,7 @@ use Rattle.schema_draft4.specs.Faults.{rest_items}
 use Rattle.schema_draft4.specs.Reading.{texts, full}
 use Rattle.schema_rules.specs.Views.{names_of}
 use Rattle.schema_draft4.proofs.Rests.{items_all}
-use Rattle.schema_draft4.proofs.read_test.read_listed.Goals as goal
+use Rattle.schema_draft4.proofs.read_keyword.read_listed.Goals as goal
 
 pub returns-clause-list : goal.returns-clause-list
 returns-clause-list c =

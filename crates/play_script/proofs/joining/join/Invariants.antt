@@ -2,7 +2,7 @@ use Rattle.std.proofs.Common.{◌≡◌, ℕ, List, ◌++◌, map, drop}
 use Rattle.std.specs.Borrow.{Bor}
 use Rattle.std.specs.List.{concat}
 use Rattle.std.specs.String.{string_bytes}
-use Rattle.play_script.proofs.joining.joined.Given as goal
+use Rattle.play_script.proofs.joining.join.Given as goal
 
 -- the text so far, and the pieces that are left, are all the pieces
 abbrev pub invariant-loop-piece : goal.invariant-loop-piece

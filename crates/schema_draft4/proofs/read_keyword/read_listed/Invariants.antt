@@ -3,7 +3,7 @@ use Rattle.json_subset.specs.Documents.{form, part}
 use Rattle.schema_draft4.specs.Faults.{rest_items}
 use Rattle.schema_draft4.specs.Reading.{texts, texts_in, full}
 use Rattle.schema_rules.specs.Views.{IsNameSet, names_of}
-use Rattle.schema_draft4.proofs.read_test.read_listed.Given as goal
+use Rattle.schema_draft4.proofs.read_keyword.read_listed.Given as goal
 
 abbrev pub invariant-loop-i : goal.invariant-loop-i
 invariant-loop-i l = record {

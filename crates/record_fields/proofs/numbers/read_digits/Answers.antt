@@ -1,7 +1,7 @@
 use Rattle.std.proofs.Common.{arith}
 use Rattle.std.proofs.lemmas.Grind.{common_steps}
 use Rattle.record_fields.proofs.Digits.{read_on_more}
-use Rattle.record_fields.proofs.numbers.spelled.Goals as goal
+use Rattle.record_fields.proofs.numbers.read_digits.Goals as goal
 
 pub returns-in_default-clause-none : goal.returns-in_default-clause-none
 returns-in_default-clause-none c =

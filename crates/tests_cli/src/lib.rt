@@ -4,20 +4,25 @@
 //! | Module | Shows |
 //! |---|---|
 //! | `scripts` | every kind of line, pieces of any size, each read and each write failing once, a full session |
+//! | `books` | a stage keeps each variable once |
 //! | `calls` | connections with several messages, and outcomes |
 //! | `checks` | documents with the lines that `check` prints |
 //! | `renders` | the command `render`: its files, limits and faults |
 //! | `roots` | the values below the roots, as the documents show them |
-//! | `cases` | templates with their texts and steps, as they were computed apart from this program |
+//! | `cases`, `more_cases` | templates with their texts and steps, as they were computed apart from this program |
 //! | `templates` | texts with the faults of reading them, as another program gave them |
 #![tactic(auto)]
 
+#[cfg(test)]
+mod books;
 #[cfg(test)]
 mod calls;
 #[cfg(test)]
 mod cases;
 #[cfg(test)]
 mod checks;
+#[cfg(test)]
+mod more_cases;
 #[cfg(test)]
 mod renders;
 #[cfg(test)]

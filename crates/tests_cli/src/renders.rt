@@ -5,11 +5,11 @@ use gw_base::{Bytes, MemSink, MemSource, ReadAll, Text};
 use std::alloc::Global;
 use std::test::Fail;
 
-pub fn text(alloc: Global, from: &str) -> Result<Text, Fail> {
+pub(crate) fn text(alloc: Global, from: &str) -> Result<Text, Fail> {
     Ok(Text::of(String::from_str(alloc, from)?))
 }
 
-pub fn words(alloc: Global, from: &[&str]) -> Result<Vec<Text>, Fail> {
+pub(crate) fn words(alloc: Global, from: &[&str]) -> Result<Vec<Text>, Fail> {
     let mut words = Vec::new(alloc);
     for word in from {
         words.push(text(alloc, word)?)?;

@@ -68,7 +68,7 @@ impl<'a> Roots for RequestRoots<'a> {
 
     ghost kept = { λ r. request_kept r };
 
-    fn get(&mut self, alloc: Global, root: Root, path: &[Step]) -> Result<Value, Memory> {
+    fn get(&self, alloc: Global, root: Root, path: &[Step]) -> Result<Value, Memory> {
         self.sources.value(alloc, root, path)
     }
 
@@ -136,7 +136,7 @@ impl<'a> Roots for ResponseRoots<'a> {
 
     ghost kept = { λ r. response_kept r };
 
-    fn get(&mut self, alloc: Global, root: Root, path: &[Step]) -> Result<Value, Memory> {
+    fn get(&self, alloc: Global, root: Root, path: &[Step]) -> Result<Value, Memory> {
         self.sources.value(alloc, root, path)
     }
 

@@ -1,5 +1,5 @@
 -- The value of a node, by its kind.
-use Rattle.std.proofs.Common.{◌≡◌, ℕ, ◌+◌, List, [], ◌∷◌, ◌++◌, map, take, Some, None, refl, sym, ap, ◌∙◌}
+use Rattle.std.proofs.Common.{◌≡◌, ℕ, ◌+◌, List, [], ◌∷◌, ◌++◌, length, map, take, Some, None, refl, sym, ap, ◌∙◌}
 use Rattle.std.proofs.lemmas.List.{map-append}
 use Rattle.std.proofs.Math.Seq.{take-length}
 use Rattle.json_subset.specs.Tree.{Tree, node, Form, trees_of, members_of}
@@ -9,7 +9,7 @@ use Rattle.json_values.specs.Parts.{items_of, entries_of}
 use Rattle.json_values.proofs.Seen.{list_form, object_form, text_form, text_decoded, decimal_part, wide_part, items_take, entries_take}
 use Rattle.vtl_values.specs.Val.{Val, number, text}
 use Rattle.vtl_values.specs.Making.{listed, mapped}
-use Rattle.gateway_vars.specs.Documents.{value_of, form_value, item_values, member_values, member_row}
+use Rattle.gateway_vars.specs.Documents.{value_of, form_value, item_values, member_values, member_row, all_values}
 
 pub value_form : (t : Tree) → value_of t ≡ form_value (form t)
 value_form (node first past f) = refl
@@ -57,3 +57,8 @@ more_members f i u ps e so_far =
 pub map_of_map : {A B C : Type 0} (f : B → C) (g : A → B) (xs : List A) → map (λ x. f (g x)) xs ≡ map f (map g xs)
 map_of_map f g [] = refl
 map_of_map f g (x ∷ xs) = ap (λ ys. f (g x) ∷ ys) (map_of_map f g xs)
+
+-- where some node is selected, its values are a list
+pub some_values : {A : Type 0} (f : A → Val) (xs : List A) → (length xs ≡ 0 → ⊥) → listed (map f xs) ≡ all_values (map f xs)
+some_values f [] some = absurd (some refl)
+some_values f (x ∷ xs) some = refl

@@ -85,12 +85,17 @@ abbrev pub one_value : List Tree → Val
 one_value [] = null
 one_value (t ∷ ts) = value_of t
 
+-- a list of these values, and null where there is none
+abbrev pub all_values : List Val → Val
+all_values [] = null
+all_values (v ∷ vs) = listed (v ∷ vs)
+
 abbrev pub selected_value : Option Tree → Option (List Step) → Val
 selected_value None steps = null
 selected_value (Some t) None = null
-selected_value (Some t) (Some steps) = if starred steps then listed (map value_of (select steps t)) else one_value (select steps t)
+selected_value (Some t) (Some steps) = if starred steps then all_values (map value_of (select steps t)) else one_value (select steps t)
 
--- $input.path: the same as values; null in place of two quotes
+-- $input.path: the value of the node that a path selects; for a path with a star a list of the values; null where nothing is selected, or where the body is no document or the path no path
 unfoldable pub value_at : List ℕ → List ℕ → Val
 value_at body p = selected_value (document body) (path p)
 

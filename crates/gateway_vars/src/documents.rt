@@ -31,7 +31,7 @@ pub fn read_document(alloc: Global, bytes: &[u8]) -> Result<Option<Doc>, Memory>
     }
 }
 
-/// The value of a node of a document. The recursion is as deep as the node.
+/// The value of a node of a document.
 #[cycle(values)]
 pub fn node_value(alloc: Global, doc: &Doc, id: NodeId) -> Result<Value, Memory>
     requires { IsPart doc.now id }

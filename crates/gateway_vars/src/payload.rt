@@ -5,8 +5,7 @@ ghost use Rattle.std.specs.String.{string_bytes};
 ghost use Rattle.json_subset.specs.Documents.{IsPart, part, root_tree};
 ghost use Rattle.jsonpath_core.specs.Selecting.{select};
 ghost use Rattle.jsonpath_core.specs.Steps.{starred as starred_of};
-ghost use Rattle.vtl_values.specs.Making.{listed};
-ghost use Rattle.gateway_vars.specs.Documents.{document, path, value_of, node_text, parted, one_text as one_text_of, all_texts as all_texts_of, one_value as one_value_of, selected_text as selected_text_of, selected_value as selected_value_of, json_at, value_at};
+ghost use Rattle.gateway_vars.specs.Documents.{document, path, value_of, node_text, parted, one_text as one_text_of, all_texts as all_texts_of, one_value as one_value_of, all_values as all_values_of, selected_text as selected_text_of, selected_value as selected_value_of, json_at, value_at};
 
 use crate::documents::{node_value, read_document};
 use gw_base::{Memory, Text};
@@ -143,17 +142,23 @@ fn values_of(alloc: Global, doc: &Doc, nodes: &[NodeId]) -> Result<ListMaker, Me
     Ok(values)
 }
 
-fn selected_values(alloc: Global, doc: &Doc, path: &Path) -> Result<ListMaker, Memory>
-    ensures { IfOk result (λ made. made ≡ map value_of (select path.now (root_tree doc.now))) }
+// A list of the values of these nodes, and null where there is none.
+#[tactic(auto, using(crate::proofs::Values::some_values))]
+fn values_or_null(alloc: Global, doc: &Doc, nodes: &[NodeId]) -> Result<Value, Memory>
+    requires { All (IsPart doc.now) nodes.now }
+    ensures { IfOk result (λ v. v ≡ all_values_of (map (λ k. value_of (part doc.now k)) nodes.now)) }
 {
-    let nodes = path.all(alloc, doc)?;
-    values_of(alloc, doc, &nodes)
+    if nodes.is_empty() {
+        return Ok(Value::null());
+    }
+    values_of(alloc, doc, nodes)?.close(alloc)
 }
 
 fn all_values(alloc: Global, doc: &Doc, path: &Path) -> Result<Value, Memory>
-    ensures { IfOk result (λ v. v ≡ listed (map value_of (select path.now (root_tree doc.now)))) }
+    ensures { IfOk result (λ v. v ≡ all_values_of (map value_of (select path.now (root_tree doc.now)))) }
 {
-    selected_values(alloc, doc, path)?.close(alloc)
+    let nodes = path.all(alloc, doc)?;
+    values_or_null(alloc, doc, &nodes)
 }
 
 fn selected_value(alloc: Global, doc: &Doc, path: &Path) -> Result<Value, Memory>

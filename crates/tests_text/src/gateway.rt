@@ -108,7 +108,7 @@ fn printed<R: Roots>(alloc: Global, template: &str, roots: &mut R) -> Result<Tex
     }
 }
 
-const PRINTED: [(&str, &str); 18] = [
+const PRINTED: [(&str, &str); 19] = [
     (
         "$input.json('$.a')|$input.json('$.b')",
         "[1,2.50,\"é\"]|\"\"",
@@ -116,6 +116,7 @@ const PRINTED: [(&str, &str); 18] = [
     ("$input.json('$.a[*]')", "[1,2.50,\"é\"]"),
     ("$input.path('$.a[1]')|$!input.path('$.b')|", "2.50||"),
     ("$input.path('$.*')", "[[1, 2.50, é]]"),
+    ("$!input.path('$.b[*]')|$!input.path('$.a[*].b')|", "||"),
     ("$input.body", BODY),
     (
         "$input.params('path')|$input.params('x')|$input.params('X-a')|$input.params('n')|",

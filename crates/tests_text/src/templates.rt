@@ -19,7 +19,7 @@ impl Roots for Letter {
 
     ghost kept = { λ _. [] };
 
-    fn get(&mut self, alloc: Global, _root: Root, _path: &[Step]) -> Result<Value, Memory> {
+    fn get(&self, alloc: Global, _root: Root, _path: &[Step]) -> Result<Value, Memory> {
         Ok(Value::text(RcStr::from_str(alloc, "B")?))
     }
 

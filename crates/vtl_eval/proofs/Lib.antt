@@ -1,5 +1,8 @@
 pub mod Arguments
 pub mod Bounds
+pub mod Calm
+pub mod CalmItems
+pub mod Cutting
 pub mod Chains
 pub mod Fronts
 pub mod Loops

@@ -18,3 +18,5 @@ pub mod References
 pub mod Roots
 -- the state of a render, its cost and its limits
 pub mod World
+-- what a render leaves that is cut short
+pub mod Cuts

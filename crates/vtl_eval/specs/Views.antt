@@ -3,13 +3,15 @@ use Rattle.std.specs.Prelude.{◌≡◌, ℕ, ◌+◌, List, [], ◌∷◌, byte
 use Rattle.std.specs.String.{string_bytes}
 use Rattle.vtl_values.specs.Val.{Val, null}
 use Rattle.vtl_eval.specs.Roots.{Stepped, name, place, method, Kept}
-use Rattle.vtl_eval.specs.World.{Scene, Outcome}
+use Rattle.vtl_eval.specs.World.{Scene, State, Outcome}
+use Rattle.vtl_eval.specs.Cuts.{IsCut}
 use Rattle.vtl_eval.specs.References.{Reached, at_value, at_root, at_context, at_loop}
 use Rattle.vtl_eval.specs.declared.roots.Step.{Step}
 use Rattle.vtl_eval.specs.declared.roots.Step.TheVariants as steps
 use Rattle.vtl_eval.specs.declared.run.Run.{Run}
 use Rattle.vtl_eval.specs.declared.reached.Reached as code
 use Rattle.vtl_eval.specs.declared.reached.Reached.TheVariants as reached
+use Rattle.vtl_eval.specs.declared.stop.Ended.{Ended}
 use Rattle.vtl_eval.specs.declared.stop.Limit.{Limit}
 use Rattle.vtl_eval.specs.declared.stop.Fail.{Fail}
 use Rattle.vtl_eval.specs.declared.stop.Fail.TheVariants as fails
@@ -56,3 +58,13 @@ Misses (fails.Met l) o = o ≡ Err l
 abbrev pub Does : {X : Type 0} → Result X Fail → Scene → Result Scene Limit → Type 0
 Does (Ok x) s o = o ≡ Ok s
 Does (Err e) s o = Misses e o
+
+-- Where memory ran out, what was written is what a smaller budget leaves.
+abbrev pub Lacks : Fail → ℕ → State → (ℕ → Outcome Ended) → Kept → Type 0
+Lacks fails.Memory b s f kept = IsCut b s f kept
+Lacks (fails.Met l) b s f kept = Unit {0}
+
+-- the same of a call
+abbrev pub Cuts : Result Ended Fail → ℕ → State → (ℕ → Outcome Ended) → Kept → Type 0
+Cuts (Ok x) b s f kept = Unit {0}
+Cuts (Err e) b s f kept = Lacks e b s f kept

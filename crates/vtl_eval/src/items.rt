@@ -1,5 +1,5 @@
 // Items.
-ghost use Rattle.std.specs.Prelude.{◌≡◌, ◌≤◌, ◌<◌, IsTrue, length, Ok, IfOk, OnOk};
+ghost use Rattle.std.specs.Prelude.{◌≡◌, ◌≤◌, ◌<◌, IsTrue, length, Ok, IfOk, OnErr, OnOk};
 ghost use Rattle.vtl_grammar.specs.Tree.{named, output, set, foreach, choose as choose_item};
 ghost use Rattle.vtl_grammar.specs.Expanded.{base_with, exprs_with, steps_with, called, most_inside};
 ghost use Rattle.vtl_reader.specs.Nodes.{expr_of, exprs_made, item_of, items_made, branches_made, target_of, AllBelow, BranchesBelow, StepsBelow, steps_made};
@@ -8,7 +8,7 @@ ghost use Rattle.vtl_values.specs.Parts.{loop_items};
 ghost use Rattle.vtl_eval.specs.Meaning.{meaning, run as run_of, chosen, turns, turned, restored, over as over_of, assigned};
 ghost use Rattle.vtl_eval.specs.Frames.{arguments_of, is_sound, seen, seen_item, seen_items, seen_branches};
 ghost use Rattle.vtl_eval.specs.Idle.{AreMarked};
-ghost use Rattle.vtl_eval.specs.Views.{Gives, scene_of, names_of};
+ghost use Rattle.vtl_eval.specs.Views.{Cuts, Gives, scene_of, names_of};
 
 use crate::eval::{eval, refer};
 use crate::frame::Frame;
@@ -31,6 +31,7 @@ fn assign<R: Roots>(
 ) -> Result<(), Memory>
     ensures ok { OnOk result ((scene_of run.new, R.kept roots.new) ≡ assigned (R.meanings roots.old) (target_of target.now) value (scene_of run.old, R.kept roots.old)) }
     ensures same { R.meanings roots.new ≡ R.meanings roots.old }
+    ensures err { OnErr result (R.kept roots.new ≡ R.kept roots.old) }
 {
     if value.is_null() {
         return Ok(());
@@ -89,7 +90,7 @@ fn over(ended: Ended) -> Ended
 // A reference in text.
 fn run_output<'a, R: Roots>(
     alloc: Global,
-    roots: &mut R,
+    roots: &R,
     arena: &Arena,
     frame: &'a Frame<'a>,
     budget: u64,
@@ -100,8 +101,7 @@ fn run_output<'a, R: Roots>(
 ) -> Result<Ended, Fail>
     requires frame { IsTrue (is_sound (length arena.now.exprs) frame.now) }
     requires steps { StepsBelow (length arena.now.exprs) steps.now }
-    ensures gives { Gives (λ e. e) result (scene_of run.new) (R.kept roots.new) (meaning budget (R.meanings roots.old) (output source.now (base_with (arguments_of arena.now.exprs frame.now) (named name.now)) (steps_with (arguments_of arena.now.exprs frame.now) (steps_made (expr_of arena.now.exprs) steps.now))) (scene_of run.old, R.kept roots.old)) }
-    ensures same { R.meanings roots.new ≡ R.meanings roots.old }
+    ensures { Gives (λ e. e) result (scene_of run.new) (R.kept roots.now) (meaning budget (R.meanings roots.now) (output source.now (base_with (arguments_of arena.now.exprs frame.now) (named name.now)) (steps_with (arguments_of arena.now.exprs frame.now) (steps_made (expr_of arena.now.exprs) steps.now))) (scene_of run.old, R.kept roots.now)) }
 {
     spend(budget, run)?;
     let below = arena.expr_count();
@@ -130,6 +130,7 @@ fn run_set<'a, R: Roots>(
     requires stands { e < length arena.now.exprs }
     ensures gives { Gives (λ e. e) result (scene_of run.new) (R.kept roots.new) (meaning budget (R.meanings roots.old) (set (target_of target.now) (seen arena.now.exprs frame.now e)) (scene_of run.old, R.kept roots.old)) }
     ensures same { R.meanings roots.new ≡ R.meanings roots.old }
+    ensures err { OnErr result (R.kept roots.new ≡ R.kept roots.old) }
 {
     spend(budget, run)?;
     let v = eval(alloc, roots, arena, frame, budget, run, e)?;
@@ -158,6 +159,7 @@ fn run_item<'a, R: Roots>(
     requires stands { k < length arena.now.items }
     ensures gives { Gives (λ e. e) result (scene_of run.new) (R.kept roots.new) (run_of budget (R.meanings roots.old) (seen_item arena.now macros.now left frame.now (item_of arena.now k)) (scene_of run.old, R.kept roots.old)) }
     ensures same { R.meanings roots.new ≡ R.meanings roots.old }
+    ensures cut { Cuts result budget (scene_of run.old, R.kept roots.old) (λ n. run_of n (R.meanings roots.old) (seen_item arena.now macros.now left frame.now (item_of arena.now k)) (scene_of run.old, R.kept roots.old)) (R.kept roots.new) }
 {
     match arena.item(k) {
         ItemNode::Text(text) => {
@@ -247,6 +249,7 @@ fn run_call<'a, R: Roots>(
     requires ids { AllBelow (length arena.now.exprs) ids.now }
     ensures gives { Gives (λ e. e) result (scene_of run.new) (R.kept roots.new) (run_of budget (R.meanings roots.old) (called (macros_by arena.now macros.now) left name.now (exprs_with (arguments_of arena.now.exprs frame.now) (exprs_made (expr_of arena.now.exprs) ids.now))) (scene_of run.old, R.kept roots.old)) }
     ensures same { R.meanings roots.new ≡ R.meanings roots.old }
+    ensures cut { Cuts result budget (scene_of run.old, R.kept roots.old) (λ n. run_of n (R.meanings roots.old) (called (macros_by arena.now macros.now) left name.now (exprs_with (arguments_of arena.now.exprs frame.now) (exprs_made (expr_of arena.now.exprs) ids.now))) (scene_of run.old, R.kept roots.old)) (R.kept roots.new) }
 {
     if left == 0 {
         return Err(Fail::Met(Limit::Depth));
@@ -300,6 +303,7 @@ fn run_choice<'a, R: Roots>(
     requires otherwise { AllBelow below otherwise.now }
     ensures gives { Gives (λ e. e) result (scene_of run.new) (R.kept roots.new) (meaning budget (R.meanings roots.old) (choose_item (seen_branches arena.now macros.now left frame.now (branches_made (expr_of arena.now.exprs) (item_of arena.now) branches.now (items_made (item_of arena.now) otherwise.now)))) (scene_of run.old, R.kept roots.old)) }
     ensures same { R.meanings roots.new ≡ R.meanings roots.old }
+    ensures cut { Cuts result budget (scene_of run.old, R.kept roots.old) (λ n. meaning n (R.meanings roots.old) (choose_item (seen_branches arena.now macros.now left frame.now (branches_made (expr_of arena.now.exprs) (item_of arena.now) branches.now (items_made (item_of arena.now) otherwise.now)))) (scene_of run.old, R.kept roots.old)) (R.kept roots.new) }
 {
     spend(budget, run)?;
     choose(
@@ -330,6 +334,7 @@ pub fn run_items<'a, R: Roots>(
     requires ids { AllBelow below ids.now }
     ensures gives { Gives (λ e. e) result (scene_of run.new) (R.kept roots.new) (run_of budget (R.meanings roots.old) (seen_items arena.now macros.now left frame.now (items_made (item_of arena.now) ids.now)) (scene_of run.old, R.kept roots.old)) }
     ensures same { R.meanings roots.new ≡ R.meanings roots.old }
+    ensures cut { Cuts result budget (scene_of run.old, R.kept roots.old) (λ n. run_of n (R.meanings roots.old) (seen_items arena.now macros.now left frame.now (items_made (item_of arena.now) ids.now)) (scene_of run.old, R.kept roots.old)) (R.kept roots.new) }
 {
     for k in ids {
         let ended = match run_item(
@@ -372,6 +377,7 @@ fn choose<'a, R: Roots>(
     requires otherwise { AllBelow below otherwise.now }
     ensures gives { Gives (λ e. e) result (scene_of run.new) (R.kept roots.new) (chosen budget (R.meanings roots.old) (seen_branches arena.now macros.now left frame.now (branches_made (expr_of arena.now.exprs) (item_of arena.now) branches.now (items_made (item_of arena.now) otherwise.now))) (scene_of run.old, R.kept roots.old)) }
     ensures same { R.meanings roots.new ≡ R.meanings roots.old }
+    ensures cut { Cuts result budget (scene_of run.old, R.kept roots.old) (λ n. chosen n (R.meanings roots.old) (seen_branches arena.now macros.now left frame.now (branches_made (expr_of arena.now.exprs) (item_of arena.now) branches.now (items_made (item_of arena.now) otherwise.now))) (scene_of run.old, R.kept roots.old)) (R.kept roots.new) }
 {
     for branch in branches {
         let v = eval(alloc, roots, arena, frame, budget, run, branch.condition)?;
@@ -422,6 +428,7 @@ fn run_loop<'a, R: Roots>(
     requires body { AllBelow below body.now }
     ensures gives { Gives (λ e. e) result (scene_of run.new) (R.kept roots.new) (meaning budget (R.meanings roots.old) (foreach name.now (seen arena.now.exprs frame.now e) (seen_items arena.now macros.now left frame.now (items_made (item_of arena.now) body.now))) (scene_of run.old, R.kept roots.old)) }
     ensures same { R.meanings roots.new ≡ R.meanings roots.old }
+    ensures cut { Cuts result budget (scene_of run.old, R.kept roots.old) (λ n. meaning n (R.meanings roots.old) (foreach name.now (seen arena.now.exprs frame.now e) (seen_items arena.now macros.now left frame.now (items_made (item_of arena.now) body.now))) (scene_of run.old, R.kept roots.old)) (R.kept roots.new) }
 {
     spend(budget, run)?;
     let list = eval(alloc, roots, arena, frame, budget, run, e)?;
@@ -462,6 +469,7 @@ fn run_turns<'a, R: Roots>(
     requires body { AllBelow below body.now }
     ensures gives { Gives (λ e. e) result (scene_of run.new) (R.kept roots.new) (turns name.now (run_of budget (R.meanings roots.old) (seen_items arena.now macros.now left frame.now (items_made (item_of arena.now) body.now))) 0 (length (loop_items list.now)) (loop_items list.now) (scene_of run.old, R.kept roots.old)) }
     ensures same { R.meanings roots.new ≡ R.meanings roots.old }
+    ensures cut { Cuts result budget (scene_of run.old, R.kept roots.old) (λ n. turns name.now (run_of n (R.meanings roots.old) (seen_items arena.now macros.now left frame.now (items_made (item_of arena.now) body.now))) 0 (length (loop_items list.now)) (loop_items list.now) (scene_of run.old, R.kept roots.old)) (R.kept roots.new) }
 {
     let all = loop_length(list);
     for n in 0..all {

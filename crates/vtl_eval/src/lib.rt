@@ -22,10 +22,10 @@
 //!
 //! What is promised, for every template and every `Roots`: the text, the steps and what is written below `$context` are
 //! those that the definition of rendering gives (`specs/Meaning.antt`), or the stop is the limit that it meets first, with
-//! what was written before; and the roots mean what they meant. The definition speaks of the tree without macros
-//! (`specs/Expanded.antt` of `vtl_grammar`): in place of each call its macro's body, with the arguments' expressions in
-//! place of the parameters. To pass over a call whose whole body does nothing changes nothing
-//! ([`laws::passing_over_changes_nothing`]).
+//! what was written before; where memory is wanting, what was written is what the same render leaves within some smaller
+//! budget; and the roots mean what they meant. The definition speaks of the tree without macros (`specs/Expanded.antt` of
+//! `vtl_grammar`): in place of each call its macro's body, with the arguments' expressions in place of the parameters.
+//! To pass over a call whose whole body does nothing changes nothing ([`laws::passing_over_changes_nothing`]).
 //!
 //! How it is built, not promised: nothing is substituted here. A body is run in a `Frame` that points to the arguments in
 //! the frame of the call, and a call whose whole body does nothing is passed over. Evaluation recurses no deeper than

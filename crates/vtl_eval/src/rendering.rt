@@ -1,7 +1,8 @@
 // A template over roots.
-ghost use Rattle.std.specs.Prelude.{◌≡◌, ◌≢◌, Ok, Err, IfOk, IfErr};
+ghost use Rattle.std.specs.Prelude.{◌≡◌, ◌≢◌, ◌≤◌, ℕ, Ok, Err, IfOk, IfErr};
 ghost use Rattle.vtl_grammar.specs.Templates.{tree_of};
 ghost use Rattle.vtl_grammar.specs.Expanded.{expanded};
+ghost use Rattle.vtl_eval.specs.Cuts.{kept_in};
 ghost use Rattle.vtl_eval.specs.Meaning.{rendering, stop_of};
 ghost use Rattle.vtl_eval.specs.Views.{scene_of};
 
@@ -30,7 +31,8 @@ fn stop_at(limit: Limit) -> Stop
 /// # Errors
 ///
 /// [`Stop::Steps`], [`Stop::Bytes`] or [`Stop::Depth`], whichever limit is met first in order of evaluation; what was
-/// written below `$context` before stays. [`Stop::Memory`] where there is no memory.
+/// written below `$context` before stays. [`Stop::Memory`] where there is no memory; what was written before stays too,
+/// as if the budget had ended there.
 #[tactic(auto, unfolding(crate::specs::Meaning::rendering))]
 pub fn render<R: Roots>(
     alloc: Global,
@@ -42,6 +44,9 @@ pub fn render<R: Roots>(
     // what is written before.
     ensures made { IfOk result (λ r. rendering budget (R.meanings roots.old) (expanded (tree_of template.now)) (R.kept roots.old) ≡ Ok (r, R.kept roots.new)) }
     ensures stop { IfErr result (λ e. e ≢ Stop.Memory → rendering budget (R.meanings roots.old) (expanded (tree_of template.now)) (R.kept roots.old) ≡ Err (e, R.kept roots.new)) }
+
+    // Where memory ran out, what is written is what the same render leaves within some smaller budget.
+    ensures lacking { IfErr result (λ e. e ≡ Stop.Memory → (n : ℕ) × (n ≤ budget) × (kept_in (rendering n (R.meanings roots.old) (expanded (tree_of template.now)) (R.kept roots.old)) ≡ R.kept roots.new)) }
 
     // The roots mean what they meant.
     ensures meanings { R.meanings roots.new ≡ R.meanings roots.old }

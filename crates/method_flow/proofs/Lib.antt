@@ -1,0 +1,2 @@
+-- renders whose writes are let go
+pub mod Renders

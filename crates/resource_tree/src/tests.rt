@@ -94,7 +94,7 @@ fn the_root_is_found_for_no_segments(rt: HostRuntime) -> Result<(), Fail> {
 #[test]
 fn a_faulty_path_is_named(rt: HostRuntime) -> Result<(), Fail> {
     let alloc = rt.alloc();
-    let rows: [(&[&str], Option<TreeFault>); 22] = [
+    let rows: [(&[&str], Option<TreeFault>); 23] = [
         (&[], None),
         (&["/"], None),
         (&["/a/b", "/a/{x}", "/a/{p+}"], None),
@@ -105,6 +105,8 @@ fn a_faulty_path_is_named(rt: HostRuntime) -> Result<(), Fail> {
         (&["/a", "/b", "/a"], Some(TreeFault::Clash(2))),
         (&["/", "/"], Some(TreeFault::Clash(1))),
         (&["/{a+}/x"], Some(TreeFault::GreedyNotLast(0))),
+        // It has a `{name+}` too early, and would clash: the first is told.
+        (&["/{a+}", "/{b+}/x"], Some(TreeFault::GreedyNotLast(1))),
         (&["/{a+}/"], Some(TreeFault::BadPart(0))),
         (&["a"], Some(TreeFault::BadPart(0))),
         (&[""], Some(TreeFault::BadPart(0))),

@@ -2,7 +2,7 @@ use Rattle.std.proofs.Common.{◌≡◌, ◌∷◌, ◌++◌, [], ◌∙◌, ap,
 use Rattle.std.proofs.lemmas.List.{get_or_read}
 use Rattle.std.specs.String.{string_bytes}
 use Rattle.resource_tree.proofs.Joined.{join_next}
-use Rattle.resource_tree.proofs.found.joined.Goals as goal
+use Rattle.resource_tree.proofs.found.join.Goals as goal
 
 pub loop-segment-preserved : goal.loop-segment-preserved
 loop-segment-preserved c =

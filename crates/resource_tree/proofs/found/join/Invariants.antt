@@ -1,7 +1,7 @@
 use Rattle.std.proofs.Common.{◌≡◌, ◌+◌, take}
 use Rattle.std.specs.List.{join_with_byte}
 use Rattle.std.specs.String.{string_bytes}
-use Rattle.resource_tree.proofs.found.joined.Given as goal
+use Rattle.resource_tree.proofs.found.join.Given as goal
 
 -- the text so far is that of the segments so far
 abbrev pub invariant-loop-segment : goal.invariant-loop-segment

@@ -58,6 +58,3 @@ pub use found::Found;
 pub use part::{Part, has_parameter};
 pub use reading::read_parts;
 pub use tree::{Hit, Tree};
-
-#[cfg(test)]
-mod tests;

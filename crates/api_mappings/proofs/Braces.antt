@@ -9,8 +9,8 @@ use Rattle.vtl_texts.proofs.Cuts.{cut_splits}
 use Rattle.vtl_texts.specs.Places.{behind, cut, earliest}
 use Rattle.api_mappings.specs.Names.{is_digit}
 use Rattle.api_mappings.specs.Uris.{outside, inside, braced, then_pieces, literals, literal_of, is_port_piece}
-use Rattle.api_mappings.specs.declared.piece.Piece.{Piece}
-use Rattle.api_mappings.specs.declared.piece.Piece.TheVariants.{Literal, Variable, Placeholder}
+use Rattle.api_parts.specs.declared.uri.Piece.{Piece}
+use Rattle.api_parts.specs.declared.uri.Piece.TheVariants.{Literal, Variable, Placeholder}
 
 -- what is read of a text, by its first brace
 abbrev opened : List ℕ → List ℕ → Option (List ℕ × List ℕ) → Option (List Piece)

@@ -2,3 +2,5 @@
 pub mod Cuts
 -- the pieces of a text
 pub mod Braces
+-- the values of a `uri`
+pub mod Values

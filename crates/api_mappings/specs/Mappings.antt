@@ -1,7 +1,9 @@
 -- The targets and the sources of mappings.
-use Rattle.std.specs.Prelude.{ℕ, ◌==◌, Bool, true, not, ◌&&◌, ◌||◌, List, ◌++◌, length, codes, Option, Some, None, Result, Ok, Err, if◌then◌else◌}
-use Rattle.resource_tree.specs.Reading.{before_last}
-use Rattle.vtl_texts.specs.Places.{behind, contains}
+use Rattle.std.specs.Prelude.{ℕ, ◌==◌, Bool, true, false, not, ◌&&◌, ◌||◌, List, ◌++◌, length, codes, Option, Some, None, Result, Ok, Err, if◌then◌else◌}
+use Rattle.resource_tree.specs.Parameters as path
+use Rattle.resource_tree.specs.Reading.{before_last, parts_of}
+use Rattle.resource_tree.specs.declared.part.Part.{Part}
+use Rattle.vtl_texts.specs.Places.{behind}
 use Rattle.jsonpath_core.specs.Reading.{path_of}
 use Rattle.jsonpath_core.specs.Steps.{Step}
 use Rattle.jsonpath_core.specs.declared.fault.PathFault.{PathFault}
@@ -33,9 +35,13 @@ spot_behind (Some rest) = spot rest
 unfoldable pub request_parameter : List ℕ → Option Spot
 request_parameter text = spot_behind (behind (codes "method.request.") text)
 
+abbrev pub among_parts : List ℕ → Option (List Part) → Bool
+among_parts name None = false
+among_parts name (Some parts) = path.has_parameter name parts
+
 -- a path has a part `{N}` or `{N+}`
 unfoldable pub has_parameter : List ℕ → List ℕ → Bool
-has_parameter path name = contains (path ++ codes "/") (codes "/{" ++ name ++ codes "}/") || contains (path ++ codes "/") (codes "/{" ++ name ++ codes "+}/")
+has_parameter path name = among_parts name (parts_of path)
 
 -- a parameter of the path is one that the resource has
 abbrev pub stands_in : List ℕ → Spot → Bool

@@ -7,8 +7,11 @@ use Rattle.json_subset.specs.Numbers.{value_from}
 use Rattle.resource_tree.specs.Reading.{before_last}
 use Rattle.vtl_texts.specs.Places.{behind, cut}
 use Rattle.api_mappings.specs.Names.{is_digit, is_name, is_path_name}
-use Rattle.api_mappings.specs.declared.piece.Piece.{Piece}
-use Rattle.api_mappings.specs.declared.piece.Piece.TheVariants.{Literal, Variable, Placeholder}
+use Rattle.api_parts.specs.declared.uri.Host.{Host}
+use Rattle.api_parts.specs.declared.uri.Host.TheVariants.{Loopback, Localhost}
+use Rattle.api_parts.specs.declared.uri.Uri.{Uri}
+use Rattle.api_parts.specs.declared.uri.Piece.{Piece}
+use Rattle.api_parts.specs.declared.uri.Piece.TheVariants.{Literal, Variable, Placeholder}
 
 -- what braces stand for, by what stands before a `$` in front of them, and behind `stageVariables.` in them
 abbrev pub braced_by : List ℕ → List ℕ → Option (List ℕ) → Option (List ℕ) → Option (List Piece)
@@ -100,40 +103,45 @@ is_open (Literal text) = false
 is_open (Variable name) = true
 is_open (Placeholder name) = true
 
--- what stands behind `http://127.0.0.1:` or `http://localhost:`
-abbrev pub behind_either : Option (List ℕ) → Option (List ℕ) → Option (List ℕ)
-behind_either (Some rest) other = Some rest
-behind_either None other = other
+-- HOST, and what stands behind `http://HOST:`
+abbrev pub behind_either : Option (List ℕ) → Option (List ℕ) → Option (Host × List ℕ)
+behind_either (Some rest) other = Some (Loopback, rest)
+behind_either None (Some rest) = Some (Localhost, rest)
+behind_either None None = None
 
-unfoldable pub behind_host : List ℕ → Option (List ℕ)
+unfoldable pub behind_host : List ℕ → Option (Host × List ℕ)
 behind_host text = behind_either (behind (codes "http://127.0.0.1:") text) (behind (codes "http://localhost:") text)
 
--- PORT and PATH: they are parted at the first `/` behind the host
-abbrev pub parted : Option (List ℕ) → Option (List ℕ × List ℕ)
-parted None = None
-parted (Some rest) = cut rest (codes "/")
-
 -- the pieces of PORT and those of PATH
-abbrev pub both_pieces : Option (List Piece) → Option (List Piece) → Option (List Piece × List Piece)
-both_pieces (Some port) (Some path) = Some (port, path)
-both_pieces (Some port) None = None
-both_pieces None o = None
+abbrev pub both_pieces : Host → Option (List Piece) → Option (List Piece) → Option Uri
+both_pieces host (Some port) (Some path) = Some (record { host = host; port = port; path = path })
+both_pieces host (Some port) None = None
+both_pieces host None o = None
 
-abbrev pub pieces_in : Option (List ℕ × List ℕ) → Option (List Piece × List Piece)
-pieces_in None = None
-pieces_in (Some c) = both_pieces (pieces_of c.0) (pieces_of c.1)
+abbrev pub pieces_in : Host → Option (List ℕ × List ℕ) → Option Uri
+pieces_in host None = None
+pieces_in host (Some c) = both_pieces host (pieces_of c.0) (pieces_of c.1)
 
-abbrev pub if_possible : Option (List Piece × List Piece) → Option (List Piece × List Piece)
+-- PORT and PATH are parted at the first `/` behind the host
+abbrev pub pieces_behind : Option (Host × List ℕ) → Option Uri
+pieces_behind None = None
+pieces_behind (Some h) = pieces_in h.0 (cut h.1 (codes "/"))
+
+-- the pieces of a `uri`, whatever values stand for its stage variables and placeholders
+unfoldable pub uri_pieces : List ℕ → Option Uri
+uri_pieces text = pieces_behind (behind_host text)
+
+abbrev pub if_possible : Option Uri → Option Uri
 if_possible None = None
-if_possible (Some u) = if can_be_port u.0 && list_all is_path_piece u.1 then Some u else None
+if_possible (Some u) = if can_be_port u.port && list_all is_path_piece u.path then Some u else None
 
--- the pieces of PORT and PATH of a `uri`; none where no values make it one of a backend
-unfoldable pub uri_of : List ℕ → Option (List Piece × List Piece)
-uri_of text = if_possible (pieces_in (parted (behind_host text)))
+-- the pieces of a `uri`; none where no values make it one of a backend
+unfoldable pub uri_of : List ℕ → Option Uri
+uri_of text = if_possible (uri_pieces text)
 
-abbrev pub is_closed : Option (List Piece × List Piece) → Bool
+abbrev pub is_closed : Option Uri → Bool
 is_closed None = false
-is_closed (Some u) = not (list_any is_open u.0) && not (list_any is_open u.1)
+is_closed (Some u) = not (list_any is_open u.port) && not (list_any is_open u.path)
 
 -- a `uri` without stage variables and placeholders
 abbrev pub is_plain_uri : List ℕ → Bool

@@ -16,12 +16,14 @@
 //! | `'it's'` | a source | the text `it's` |
 //!
 //! What the contracts promise: each call answers the definition of `specs/Names.antt`, `specs/Uris.antt` or
-//! `specs/Mappings.antt`, and `None` exactly where the text is none. Want of memory alone has no cause.
+//! `specs/Mappings.antt`, and `None` exactly where the text is none. Want of memory alone has no cause. As laws ([`laws`]),
+//! a text is read as a `uri` just where some values of its stage variables and placeholders give it the form, and refused
+//! just where none do.
 #![tactic(auto)]
 
+pub mod laws;
 mod mappings;
 mod names;
-mod piece;
 mod texts;
 mod uri;
 
@@ -30,8 +32,4 @@ pub use mappings::{
     response_source, response_target,
 };
 pub use names::{is_name, is_token};
-pub use piece::Piece;
-pub use uri::{Uri, is_plain, read_uri};
-
-#[cfg(test)]
-mod tests;
+pub use uri::{is_plain, read_uri};

@@ -5,12 +5,12 @@ ghost use Rattle.vtl_texts.specs.Places.{behind as behind_of};
 ghost use Rattle.api_mappings.specs.Mappings as says;
 
 use crate::names::{is_dotted, is_name, is_own_header, is_path_name, is_token};
-use crate::texts::{before_last, behind, copied};
+use crate::texts::{before_last, behind, copy};
 use api_parts::{Origin, ParameterPlace};
 use gw_base::Memory;
 use jsonpath_core::{Path, PathFault};
+use resource_tree::read_parts;
 use std::alloc::Global;
-use vtl_texts::contains;
 
 // `path.N`, `querystring.N` or `header.N`.
 #[tactic(auto, unfolding(crate::specs::Mappings::spot))]
@@ -37,22 +37,15 @@ fn spot(text: &str) -> Option<(ParameterPlace, &str)>
     }
 }
 
-/// Whether the path of a resource has a part `{N}` or `{N+}` of this name.
+/// Whether the path of a resource has a part `{N}` or `{N+}` of this name. A text that is no path has none.
 #[tactic(auto, unfolding(crate::specs::Mappings::has_parameter))]
 pub fn has_parameter(alloc: Global, path: &str, name: &str) -> Result<bool, Memory>
     ensures { IfOk result (λ b. b ≡ says.has_parameter path.now name.now) }
 {
-    let Ok(ended) = format!(in alloc; "{path}/") else {
-        return Err(Memory);
-    };
-    let Ok(single) = format!(in alloc; "/{{{name}}}/") else {
-        return Err(Memory);
-    };
-    let Ok(greedy) = format!(in alloc; "/{{{name}+}}/") else {
-        return Err(Memory);
-    };
-    let found = contains(ended.as_str(), single.as_str());
-    Ok(found || contains(ended.as_str(), greedy.as_str()))
+    match read_parts(alloc, path)? {
+        Some(parts) => Ok(resource_tree::has_parameter(parts.as_slice(), name)),
+        None => Ok(false),
+    }
 }
 
 fn stands_in(alloc: Global, path: &str, place: ParameterPlace, name: &str) -> Result<bool, Memory>
@@ -150,14 +143,14 @@ pub fn response_target(text: &str) -> Option<(ParameterPlace, &str)>
 }
 
 // A text between quotes.
-fn quoted(alloc: Global, text: &str) -> Result<Option<Origin>, Memory>
+fn read_quoted(alloc: Global, text: &str) -> Result<Option<Origin>, Memory>
     ensures { IfOk result (λ o. o ≡ says.quoted (behind_of (codes "'") text.now)) }
 {
     let Some(rest) = behind(text, "'") else {
         return Ok(None);
     };
     match before_last(rest, '\'') {
-        Some(inner) => Ok(Some(Origin::Static(copied(alloc, inner)?))),
+        Some(inner) => Ok(Some(Origin::Static(copy(alloc, inner)?))),
         None => Ok(None),
     }
 }
@@ -169,17 +162,17 @@ pub fn plain_source(alloc: Global, text: &str) -> Result<Option<Origin>, Memory>
 {
     if let Some(name) = behind(text, "context.") {
         if is_dotted(name) {
-            return Ok(Some(Origin::Context(copied(alloc, name)?)));
+            return Ok(Some(Origin::Context(copy(alloc, name)?)));
         }
         return Ok(None);
     }
     if let Some(name) = behind(text, "stageVariables.") {
         if is_name(name) {
-            return Ok(Some(Origin::StageVariable(copied(alloc, name)?)));
+            return Ok(Some(Origin::StageVariable(copy(alloc, name)?)));
         }
         return Ok(None);
     }
-    quoted(alloc, text)
+    read_quoted(alloc, text)
 }
 
 // A part of a body, by its path behind `$.`.
@@ -209,7 +202,7 @@ pub fn request_source(alloc: Global, path: &str, text: &str) -> Result<Option<Or
         return plain_source(alloc, text);
     };
     match parameter_behind(alloc, path, rest)? {
-        Some((place, name)) => Ok(Some(Origin::Parameter(place, copied(alloc, name)?))),
+        Some((place, name)) => Ok(Some(Origin::Parameter(place, copy(alloc, name)?))),
         None => Ok(None),
     }
 }
@@ -226,7 +219,7 @@ pub fn response_source(alloc: Global, text: &str) -> Result<Option<Origin>, Memo
         return plain_source(alloc, text);
     };
     if is_token(name) {
-        Ok(Some(Origin::ReplyHeader(copied(alloc, name)?)))
+        Ok(Some(Origin::ReplyHeader(copy(alloc, name)?)))
     } else {
         Ok(None)
     }

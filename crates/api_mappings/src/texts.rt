@@ -34,7 +34,7 @@ pub(crate) fn before_last(text: &str, c: char) -> Option<&str>
 }
 
 /// The same text once more.
-pub(crate) fn copied(alloc: Global, text: &str) -> Result<Text, Memory>
+pub(crate) fn copy(alloc: Global, text: &str) -> Result<Text, Memory>
     ensures { IfOk result (λ copy. copy ≡ text.now) }
 {
     Ok(Text::of(String::from_str(alloc, text)?))

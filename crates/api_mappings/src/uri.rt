@@ -8,36 +8,29 @@ ghost use Rattle.api_mappings.specs.Names.{is_digit};
 ghost use Rattle.api_mappings.specs.Uris as says;
 
 use crate::names::{is_name, is_path_name};
-use crate::piece::Piece;
-use crate::texts::{before_last, behind, copied, split_once};
-use gw_base::{Memory, Text};
+use crate::texts::{before_last, behind, copy, split_once};
+use api_parts::{Host, Piece, Uri};
+use gw_base::{Memory, Seq, Text};
 use std::alloc::Global;
-
-/// A `uri` that was read: the pieces of its port, and of its path behind the first `/`.
-#[derive(Drop)]
-pub struct Uri {
-    pub port: Vec<Piece>,
-    pub path: Vec<Piece>,
-}
 
 // What braces stand for, behind a literal.
 #[tactic(auto, unfolding(crate::specs::Uris::braced))]
-fn braced(alloc: Global, front: &str, inside: &str) -> Result<Option<(Piece, Piece)>, Memory>
+fn read_braces(alloc: Global, front: &str, inside: &str) -> Result<Option<(Piece, Piece)>, Memory>
     ensures { IfOk result (λ o. option_map (λ p. p.0 ∷ p.1 ∷ []) o ≡ says.braced front.now inside.now) }
 {
     if let Some(before) = before_last(front, '$') {
         if let Some(name) = behind(inside, "stageVariables.") {
             if is_name(name) {
-                let front = copied(alloc, before)?;
-                let name = copied(alloc, name)?;
+                let front = copy(alloc, before)?;
+                let name = copy(alloc, name)?;
                 return Ok(Some((Piece::Literal(front), Piece::Variable(name))));
             }
             return Ok(None);
         }
     }
     if is_path_name(inside) {
-        let front = copied(alloc, front)?;
-        let name = copied(alloc, inside)?;
+        let front = copy(alloc, front)?;
+        let name = copy(alloc, inside)?;
         return Ok(Some((Piece::Literal(front), Piece::Placeholder(name))));
     }
     Ok(None)
@@ -54,14 +47,14 @@ fn pieces(alloc: Global, text: &str) -> Result<Option<Vec<Piece>>, Memory>
         let Some((inside, more)) = split_once(behind, "}") else {
             return Ok(None);
         };
-        let Some((literal, named)) = braced(alloc, front, inside)? else {
+        let Some((literal, named)) = read_braces(alloc, front, inside)? else {
             return Ok(None);
         };
         pieces.push(literal)?;
         pieces.push(named)?;
         rest = more;
     }
-    let last = copied(alloc, rest)?;
+    let last = copy(alloc, rest)?;
     pieces.push(Piece::Literal(last))?;
     Ok(Some(pieces))
 }
@@ -236,24 +229,48 @@ fn are_open(pieces: &[Piece]) -> bool
     pieces.iter().any(|piece| is_open(piece))
 }
 
-// What stands behind `http://HOST:`.
+// The host, and what stands behind `http://HOST:`.
 #[tactic(auto, unfolding(crate::specs::Uris::behind_host))]
-fn behind_host(text: &str) -> Option<&str>
-    ensures { option_map (λ t. t.now) result ≡ says.behind_host text.now }
+fn behind_host(text: &str) -> Option<(Host, &str)>
+    ensures { option_map (λ h. (h.0, h.1.now)) result ≡ says.behind_host text.now }
 {
-    match behind(text, "http://127.0.0.1:") {
-        Some(rest) => Some(rest),
-        None => behind(text, "http://localhost:"),
+    if let Some(rest) = behind(text, "http://127.0.0.1:") {
+        return Some((Host::Loopback, rest));
+    }
+    match behind(text, "http://localhost:") {
+        Some(rest) => Some((Host::Localhost, rest)),
+        None => None,
     }
 }
 
-// The texts of the port and of the path.
-fn parted(text: &str) -> Option<(&str, &str)>
-    ensures { option_map (λ c. (c.0.now, c.1.now)) result ≡ says.parted (says.behind_host text.now) }
+// The pieces of a port and of a path.
+fn both_pieces(alloc: Global, host: Host, port: &str, path: &str) -> Result<Option<Uri>, Memory>
+    ensures { IfOk result (λ o. o ≡ says.both_pieces host (says.pieces_of port.now) (says.pieces_of path.now)) }
 {
-    match behind_host(text) {
-        Some(rest) => split_once(rest, "/"),
-        None => None,
+    let Some(port) = pieces(alloc, port)? else {
+        return Ok(None);
+    };
+    let Some(path) = pieces(alloc, path)? else {
+        return Ok(None);
+    };
+    Ok(Some(Uri {
+        host,
+        port: Seq::of(port),
+        path: Seq::of(path),
+    }))
+}
+
+// The pieces of a text, whatever their values make of it.
+#[tactic(auto, unfolding(crate::specs::Uris::uri_pieces))]
+fn read_pieces(alloc: Global, text: &str) -> Result<Option<Uri>, Memory>
+    ensures { IfOk result (λ o. o ≡ says.uri_pieces text.now) }
+{
+    let Some((host, rest)) = behind_host(text) else {
+        return Ok(None);
+    };
+    match split_once(rest, "/") {
+        Some((port, path)) => both_pieces(alloc, host, port, path),
+        None => Ok(None),
     }
 }
 
@@ -262,21 +279,17 @@ fn parted(text: &str) -> Option<(&str, &str)>
 /// digits, and the path is of bytes 33 to 126 but for `?`, `#`, `{` and `}`.
 #[tactic(auto, unfolding(crate::specs::Uris::uri_of))]
 pub fn read_uri(alloc: Global, text: &str) -> Result<Option<Uri>, Memory>
-    ensures { IfOk result (λ o. option_map (λ u. (u.port.items, u.path.items)) o ≡ says.uri_of text.now) }
+    ensures { IfOk result (λ o. o ≡ says.uri_of text.now) }
 {
-    let Some((port, path)) = parted(text) else {
-        return Ok(None);
-    };
-    let Some(port) = pieces(alloc, port)? else {
-        return Ok(None);
-    };
-    let Some(path) = pieces(alloc, path)? else {
-        return Ok(None);
-    };
-    if can_be_port(alloc, &port)? && are_path_pieces(&path) {
-        Ok(Some(Uri { port, path }))
-    } else {
-        Ok(None)
+    match read_pieces(alloc, text)? {
+        Some(uri) => {
+            if can_be_port(alloc, uri.port.as_slice())? && are_path_pieces(uri.path.as_slice()) {
+                Ok(Some(uri))
+            } else {
+                Ok(None)
+            }
+        }
+        None => Ok(None),
     }
 }
 
@@ -285,7 +298,7 @@ pub fn is_plain(alloc: Global, text: &str) -> Result<bool, Memory>
     ensures { IfOk result (λ b. b ≡ says.is_plain_uri text.now) }
 {
     match read_uri(alloc, text)? {
-        Some(uri) => Ok(!are_open(&uri.port) && !are_open(&uri.path)),
+        Some(uri) => Ok(!are_open(uri.port.as_slice()) && !are_open(uri.path.as_slice())),
         None => Ok(false),
     }
 }

@@ -1,5 +1,6 @@
 -- An authorizer: `header` and `uri`, and perhaps `pattern`, `ttl` and `timeout`.
-use Rattle.std.specs.Prelude.{ℕ, List, [], ◌∷◌, ◌++◌, codes, bytes_eq, if◌then◌else◌, Ok, Err, Option, Some, None}
+use Rattle.std.specs.Prelude.{◌≡◌, ℕ, List, [], ◌∷◌, ◌++◌, codes, bytes_eq, if◌then◌else◌, Ok, Err, Option, Some, None}
+use Rattle.std.specs.Option.{option_map}
 use Rattle.json_subset.specs.Tree.{Tree}
 use Rattle.pattern_core.specs.Search.{anchored}
 use Rattle.api_parts.specs.Reading.{Text, Read, ◌>>=◌, each, here, needed, unknown, Waiting, first_of, waiting_below}
@@ -8,8 +9,8 @@ use Rattle.api_parts.specs.declared.fault.ApiCause.TheVariants.{BadMapping, BadU
 use Rattle.api_parts.specs.declared.parts.TokenAuthorizer.{TokenAuthorizer}
 use Rattle.api_mappings.specs.Names.{is_name, is_token}
 use Rattle.api_mappings.specs.Uris.{is_plain_uri}
-use Rattle.api_members.specs.Values.{number_in, object_in, text_in}
-use Rattle.api_members.specs.Texts.{pattern_in}
+use Rattle.api_reading.specs.Values.{number_in, object_in, text_in}
+use Rattle.api_reading.specs.Texts.{pattern_in}
 use Rattle.api_members.specs.declared.authorizers.AuthorizerRead.{AuthorizerRead}
 use Rattle.api_members.specs.declared.authorizers.AuthorizersRead.{AuthorizersRead}
 
@@ -49,3 +50,10 @@ authorizers_member all x t = if is_name x then (authorizer_in x t >>= λ a. Ok (
 
 abbrev pub authorizers_in : Text → Tree → Read AuthorizersRead
 authorizers_in name t = object_in name t >>= each authorizers_member record { list = []; waiting = None }
+
+abbrev pub authorizer_name : TokenAuthorizer → Text
+authorizer_name a = a.authorizer.name
+
+-- the pattern of an authorizer is kept for whole tokens
+abbrev pub IsCompiled : TokenAuthorizer → Type 0
+IsCompiled a = a.whole ≡ option_map anchored a.authorizer.pattern

@@ -9,8 +9,8 @@ use Rattle.api_parts.specs.declared.parts.GatewayRule.{GatewayRule}
 use Rattle.api_parts.specs.declared.parts.Origin.{Origin}
 use Rattle.api_parts.specs.declared.parts.ParameterPlace.{ParameterPlace}
 use Rattle.api_mappings.specs.Mappings.{gateway_target, plain_source}
-use Rattle.api_members.specs.Values.{number_in, object_in, text_in}
-use Rattle.api_members.specs.Texts.{small_template_in}
+use Rattle.api_reading.specs.Values.{number_in, object_in, text_in}
+use Rattle.api_members.specs.Small.{small_template_in}
 use Rattle.api_members.specs.declared.gateway.HeadersRead.{HeadersRead}
 use Rattle.api_members.specs.declared.gateway.GatewayRead.{GatewayRead}
 use Rattle.api_members.specs.declared.gateway.GatewaysRead.{GatewaysRead}
@@ -27,11 +27,18 @@ kinds =
 unfoldable pub is_kind : Text → Bool
 is_kind name = list_any (λ k. bytes_eq k name) kinds
 
--- a header with its source; one of another form waits to be refused
+-- a header with its source
+abbrev pub listed : HeadersRead → Text → Origin → HeadersRead
+listed hs x origin = record { list = hs.list ++ (x, origin) ∷ []; waiting = hs.waiting }
+
+-- one of another form waits to be refused
+abbrev pub refused : HeadersRead → Text → HeadersRead
+refused hs x = record { list = hs.list; waiting = first_of hs.waiting (Some (fault_below x (here BadMapping))) }
+
 abbrev pub with_header : HeadersRead → Text → Option (ParameterPlace × Text) → Option Origin → HeadersRead
-with_header hs x (Some spot) (Some origin) = record { list = hs.list ++ (x, origin) ∷ []; waiting = hs.waiting }
-with_header hs x (Some spot) None = record { list = hs.list; waiting = first_of hs.waiting (Some (fault_below x (here BadMapping))) }
-with_header hs x None o = record { list = hs.list; waiting = first_of hs.waiting (Some (fault_below x (here BadMapping))) }
+with_header hs x (Some spot) (Some origin) = listed hs x origin
+with_header hs x (Some spot) None = refused hs x
+with_header hs x None o = refused hs x
 
 abbrev pub headers_member : HeadersRead → Text → Tree → Read HeadersRead
 headers_member hs x t = text_in x t >>= λ s. Ok (with_header hs x (gateway_target x) (plain_source s))

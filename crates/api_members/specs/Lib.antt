@@ -1,13 +1,11 @@
--- the forms of values
-pub mod Values
 -- validators
 pub mod Validators
--- patterns and templates
-pub mod Texts
 -- authorizers
 pub mod Authorizers
 -- models
 pub mod Models
+-- templates of the gateway's own answers
+pub mod Small
 -- the gateway's own answers
 pub mod Gateway
 -- the nodes of a template

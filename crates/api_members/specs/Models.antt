@@ -12,7 +12,7 @@ use Rattle.api_parts.specs.declared.fault.ApiCause.TheVariants.{Model}
 use Rattle.api_parts.specs.declared.fault.ModelFault.{ModelFault}
 use Rattle.api_parts.specs.declared.fault.ModelFault.TheVariants as model
 use Rattle.api_mappings.specs.Names.{is_name}
-use Rattle.api_members.specs.Values.{object_in}
+use Rattle.api_reading.specs.Values.{object_in}
 
 -- a stands on c
 abbrev pub stands_on : List (List ℕ) → ℕ → ℕ → Bool

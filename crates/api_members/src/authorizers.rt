@@ -4,11 +4,12 @@ ghost use Rattle.json_subset.specs.Documents.{IsPart, part};
 ghost use Rattle.api_parts.specs.Reading.{Reads, first_of};
 ghost use Rattle.api_members.specs.Authorizers as says;
 
-use crate::texts::token_pattern;
-use crate::values::{copied, here_is, member_at, missing, number, object, text, unknown};
-use crate::waiting::{bad_mapping, waits};
 use api_mappings::{is_name, is_plain, is_token};
 use api_parts::{ApiCause, ApiFault, Authorizer, TokenAuthorizer, below, no_memory};
+use api_reading::values::{
+    copy, fault_here, member_at, missing_member, number, object, text, unknown_member,
+};
+use api_reading::{bad_mapping, token_pattern, waits};
 use gw_base::{Seq, Text};
 use json_subset::{Doc, NodeId};
 use pattern_core::Pattern;
@@ -53,7 +54,7 @@ fn plain_uri(alloc: Global, text: Text) -> Result<Text, ApiFault>
 {
     match is_plain(alloc, text.as_str()) {
         Ok(true) => Ok(text),
-        Ok(false) => Err(here_is(alloc, ApiCause::BadUri)),
+        Ok(false) => Err(fault_here(alloc, ApiCause::BadUri)),
         Err(_) => Err(no_memory(alloc)),
     }
 }
@@ -101,7 +102,7 @@ fn add_member(
         let timeout = number(alloc, doc, 50, 29_000, name, id)?;
         return Ok(AuthorizerRead { timeout, ..read });
     }
-    Err(unknown(alloc, name))
+    Err(unknown_member(alloc, name))
 }
 
 fn authorizer_of(
@@ -121,12 +122,12 @@ fn authorizer_of(
         waiting,
     } = read;
     let Some(header) = header else {
-        return Err(missing(alloc, "header"));
+        return Err(missing_member(alloc, "header"));
     };
     let Some(uri) = uri else {
-        return Err(missing(alloc, "uri"));
+        return Err(missing_member(alloc, "uri"));
     };
-    let name = copied(alloc, name)?;
+    let name = copy(alloc, name)?;
     let authorizer = Authorizer {
         name,
         header,
@@ -178,7 +179,7 @@ fn add_authorizer(
     ensures { Reads (says.authorizers_member read name.now (part doc.now id)) result }
 {
     if !is_name(name) {
-        return Err(unknown(alloc, name));
+        return Err(unknown_member(alloc, name));
     }
     let (authorizer, fault) = read_authorizer(alloc, doc, name, id)?;
     let waiting = waits(alloc, read.waiting, name, fault)?;

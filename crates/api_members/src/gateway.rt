@@ -6,11 +6,11 @@ ghost use Rattle.api_mappings.specs.Mappings.{gateway_target as gateway_target_o
 ghost use Rattle.api_parts.specs.Reading.{Reads};
 ghost use Rattle.api_members.specs.Gateway as says;
 
-use crate::texts::small_template;
-use crate::values::{copied, member_at, number, object, text, unknown};
-use crate::waiting::{bad_mapping, waits};
+use crate::small::small_template;
 use api_mappings::{gateway_target, plain_source};
 use api_parts::{ApiCause, ApiFault, GatewayRule, Origin, below, no_memory};
+use api_reading::values::{copy, member_at, number, object, text, unknown_member};
+use api_reading::{bad_mapping, waits};
 use gw_base::{Seq, Text};
 use json_subset::{Doc, NodeId};
 use std::alloc::Global;
@@ -80,6 +80,37 @@ fn is_kind(name: &str) -> bool
     is_among(&KINDS, name)
 }
 
+// One header more, with its source.
+fn list_header(
+    alloc: Global,
+    read: HeadersRead,
+    name: &str,
+    origin: Origin,
+) -> Result<HeadersRead, ApiFault>
+    ensures { MatchResult result (λ r. r ≡ says.listed read name.now origin) (λ e. e.cause ≡ ApiCause.Memory) }
+{
+    let name = copy(alloc, name)?;
+    let mut list = read.list;
+    match list.push((name, origin)) {
+        Ok(()) => Ok(HeadersRead {
+            list,
+            waiting: read.waiting,
+        }),
+        Err(_) => Err(no_memory(alloc)),
+    }
+}
+
+// One that waits to be refused.
+fn refuse_header(alloc: Global, read: HeadersRead, name: &str) -> Result<HeadersRead, ApiFault>
+    ensures { MatchResult result (λ r. r ≡ says.refused read name.now) (λ e. e.cause ≡ ApiCause.Memory) }
+{
+    let waiting = bad_mapping(alloc, read.waiting, name)?;
+    Ok(HeadersRead {
+        list: read.list,
+        waiting,
+    })
+}
+
 fn with_header(
     alloc: Global,
     read: HeadersRead,
@@ -90,32 +121,10 @@ fn with_header(
 {
     match gateway_target(name) {
         Some(_) => match origin {
-            Some(origin) => {
-                let name = copied(alloc, name)?;
-                let mut list = read.list;
-                match list.push((name, origin)) {
-                    Ok(()) => Ok(HeadersRead {
-                        list,
-                        waiting: read.waiting,
-                    }),
-                    Err(_) => Err(no_memory(alloc)),
-                }
-            }
-            None => {
-                let waiting = bad_mapping(alloc, read.waiting, name)?;
-                Ok(HeadersRead {
-                    list: read.list,
-                    waiting,
-                })
-            }
+            Some(origin) => list_header(alloc, read, name, origin),
+            None => refuse_header(alloc, read, name),
         },
-        None => {
-            let waiting = bad_mapping(alloc, read.waiting, name)?;
-            Ok(HeadersRead {
-                list: read.list,
-                waiting,
-            })
-        }
+        None => refuse_header(alloc, read, name),
     }
 }
 
@@ -188,7 +197,7 @@ fn add_member(
             ..read
         });
     }
-    Err(unknown(alloc, name))
+    Err(unknown_member(alloc, name))
 }
 
 fn read_gateway(alloc: Global, doc: &Doc, name: &str, id: NodeId) -> Result<GatewayRead, ApiFault>
@@ -223,7 +232,7 @@ fn add_gateway(
     ensures { Reads (says.gateways_member read name.now (part doc.now id)) result }
 {
     if !is_kind(name) {
-        return Err(unknown(alloc, name));
+        return Err(unknown_member(alloc, name));
     }
     let gateway = read_gateway(alloc, doc, name, id)?;
     let waiting = waits(alloc, read.waiting, name, gateway.waiting)?;
@@ -232,7 +241,7 @@ fn add_gateway(
         headers: gateway.headers,
         template: gateway.template,
     };
-    let name = copied(alloc, name)?;
+    let name = copy(alloc, name)?;
     let mut list = read.list;
     match list.push((name, rule)) {
         Ok(()) => Ok(GatewaysRead { list, waiting }),

@@ -1,5 +1,5 @@
 //! The members of a definition that stand beside its resources: validators, authorizers, models, and the gateway's own
-//! answers; with the forms of values, patterns and templates that the resources have too.
+//! answers.
 //!
 //! ```text
 //! read_validators(alloc, &doc, "validators", id)?     // doc: {"all":{"body":true}}: all, whose body is checked
@@ -24,14 +24,10 @@
 mod authorizers;
 mod gateway;
 mod models;
-mod texts;
+mod small;
 mod validators;
-pub mod values;
-mod waiting;
 
 pub use authorizers::{AuthorizersRead, read_authorizers};
 pub use gateway::{GatewaysRead, read_gateways};
 pub use models::read_models;
-pub use texts::{pattern, read_template, read_templates};
 pub use validators::read_validators;
-pub use waiting::{bad_mapping, waits};

@@ -6,9 +6,9 @@ ghost use Rattle.schema_draft4.specs.Faults.{FaultNamesPart};
 ghost use Rattle.api_members.specs.Models as says;
 ghost use Rattle.api_members.specs.Causes.{IsCauseOf};
 
-use crate::values::{bad, copied, here_is, member_at, object, unknown};
 use api_mappings::is_name;
 use api_parts::{ApiCause, ApiFault, ModelFault, below, no_memory};
+use api_reading::values::{bad_member, copy, fault_here, member_at, object, unknown_member};
 use gw_base::{Seq, Text};
 use json_subset::{Doc, NodeId};
 use schema_draft4::{Schema, SchemaFault};
@@ -25,15 +25,15 @@ fn cause(alloc: Global, doc: &Doc, fault: &SchemaFault) -> Result<ApiCause, ApiF
     match fault {
         SchemaFault::BadKeyword(at) => Ok(ApiCause::Model(ModelFault::BadKeyword(doc.place(*at)))),
         SchemaFault::BadPattern(at) => Ok(ApiCause::Model(ModelFault::BadPattern(doc.place(*at)))),
-        SchemaFault::Unsupported(name) => Ok(ApiCause::Model(ModelFault::Unsupported(copied(
+        SchemaFault::Unsupported(name) => Ok(ApiCause::Model(ModelFault::Unsupported(copy(
             alloc,
             name.as_str(),
         )?))),
-        SchemaFault::RefMissing(name) => Ok(ApiCause::Model(ModelFault::RefMissing(copied(
+        SchemaFault::RefMissing(name) => Ok(ApiCause::Model(ModelFault::RefMissing(copy(
             alloc,
             name.as_str(),
         )?))),
-        SchemaFault::RefCycle(name) => Ok(ApiCause::Model(ModelFault::RefCycle(copied(
+        SchemaFault::RefCycle(name) => Ok(ApiCause::Model(ModelFault::RefCycle(copy(
             alloc,
             name.as_str(),
         )?))),
@@ -49,7 +49,7 @@ fn model(alloc: Global, doc: &Doc, id: NodeId) -> Result<Schema, ApiFault>
     match Schema::read(alloc, doc, id) {
         Ok(schema) => Ok(schema),
         Err(fault) => match cause(alloc, doc, &fault) {
-            Ok(cause) => Err(here_is(alloc, cause)),
+            Ok(cause) => Err(fault_here(alloc, cause)),
             Err(fault) => Err(fault),
         },
     }
@@ -66,10 +66,10 @@ fn add_model(
     ensures { ReadsAs (map says.model_seen) (says.models_member (map says.model_seen read) name.now (part doc.now id)) result }
 {
     if !is_name(name) {
-        return Err(unknown(alloc, name));
+        return Err(unknown_member(alloc, name));
     }
     let schema = model(alloc, doc, id)?;
-    let name = copied(alloc, name)?;
+    let name = copy(alloc, name)?;
     let mut read = read;
     match read.push((name, schema)) {
         Ok(()) => Ok(read),
@@ -90,7 +90,7 @@ pub fn read_models(
     let mut read = Seq::new(alloc);
     let count = object(alloc, doc, name, id)?;
     if count > MODELS {
-        return Err(bad(alloc, name));
+        return Err(bad_member(alloc, name));
     }
     for i in 0..count {
         let (member, value) = member_at(doc, id, i);

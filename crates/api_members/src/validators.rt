@@ -4,9 +4,9 @@ ghost use Rattle.json_subset.specs.Documents.{IsPart, part};
 ghost use Rattle.api_parts.specs.Reading.{Reads};
 ghost use Rattle.api_members.specs.Validators.{validator_in, validator_member, validators_in, validators_member};
 
-use crate::values::{copied, flag, member_at, object, unknown};
 use api_mappings::is_name;
 use api_parts::{ApiFault, Validator, below, no_memory};
+use api_reading::values::{copy, flag, member_at, object, unknown_member};
 use gw_base::{Seq, Text};
 use json_subset::{Doc, NodeId};
 use std::alloc::Global;
@@ -29,7 +29,7 @@ fn add_check(
         let parameters = flag(alloc, doc, name, id)?;
         return Ok(Validator { parameters, ..read });
     }
-    Err(unknown(alloc, name))
+    Err(unknown_member(alloc, name))
 }
 
 fn read_validator(alloc: Global, doc: &Doc, name: &str, id: NodeId) -> Result<Validator, ApiFault>
@@ -62,10 +62,10 @@ fn add_validator(
     ensures { Reads (validators_member read name.now (part doc.now id)) result }
 {
     if !is_name(name) {
-        return Err(unknown(alloc, name));
+        return Err(unknown_member(alloc, name));
     }
     let validator = read_validator(alloc, doc, name, id)?;
-    let name = copied(alloc, name)?;
+    let name = copy(alloc, name)?;
     let mut read = read;
     match read.push((name, validator)) {
         Ok(()) => Ok(read),

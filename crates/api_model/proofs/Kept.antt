@@ -5,7 +5,7 @@ use Rattle.vtl_grammar.specs.Tree.{Items}
 use Rattle.vtl_grammar.specs.Templates.{read_of}
 use Rattle.vtl_grammar.specs.declared.fault.TemplateFault.{TemplateFault}
 use Rattle.api_parts.specs.Reading.{Read}
-use Rattle.api_members.specs.Texts.{template_by, template_of}
+use Rattle.api_reading.specs.Texts.{template_by, template_of}
 use Rattle.api_model.specs.Definition.{Definition, parts_in, parts_of, stated}
 use Rattle.api_model.specs.Document.{Parts}
 

@@ -6,3 +6,7 @@ pub mod Kept
 pub mod Ranges
 -- what may cross threads
 pub mod Sent
+-- what a definition names is there
+pub mod Named
+-- what holds of the parts that definitions state
+pub mod Stated

@@ -15,16 +15,17 @@ use Rattle.api_parts.specs.declared.parts.Resource.{Resource}
 use Rattle.api_members.specs.Authorizers.{authorizers_in}
 use Rattle.api_members.specs.Gateway.{gateways_in}
 use Rattle.api_members.specs.Models.{models_in}
-use Rattle.api_members.specs.Texts.{template_of}
+use Rattle.api_reading.specs.Texts.{template_of}
 use Rattle.api_members.specs.Validators.{validators_in}
-use Rattle.api_members.specs.Values.{number_in, object_in}
+use Rattle.api_reading.specs.Values.{number_in, object_in}
 use Rattle.api_resources.specs.Methods.{method_in}
 use Rattle.api_resources.specs.Resources.{is_entry, with_method, verbs_member, verbs_in, with_resource, resources_member, paths_of, no_resources, resources_from, resources_in}
 use Rattle.api_resources.specs.declared.resources.VerbsRead.{VerbsRead}
 use Rattle.api_resources.specs.declared.resources.ResourcesRead.{ResourcesRead}
 use Rattle.api_model.specs.Definition.{Definition, document_parts, parts_in, parts_of, read_by, stated, stated_as, text_parts}
 use Rattle.api_model.specs.Document.{Parts, Top, document_member, no_parts, nothing_read, settled, stands, stated_by, parts_of as told_by}
-use Rattle.api_model.specs.Getters.{entry_of, or_second, value_at}
+use Rattle.resource_tree.specs.Parameters.{value_at}
+use Rattle.api_model.specs.Getters.{entry_of, or_second}
 use Rattle.api_model.specs.Ranges.{LeadToMethods, AlwaysLeadToMethods}
 
 -- what follows a value was read of it

@@ -5,7 +5,7 @@ use Rattle.json_subset.specs.Tree.{Tree}
 use Rattle.json_subset.specs.declared.fault.JsonFault.{JsonFault}
 use Rattle.api_parts.specs.Reading.{Text, Read, here, ◌>>=◌, under}
 use Rattle.api_parts.specs.declared.fault.ApiCause.TheVariants.{Json, TooLong}
-use Rattle.api_members.specs.Texts.{template_of}
+use Rattle.api_reading.specs.Texts.{template_of}
 use Rattle.api_model.specs.Document.{Parts, no_parts, stated_by}
 
 -- its form and its source, which fix all its parts

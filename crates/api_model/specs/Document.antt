@@ -12,7 +12,7 @@ use Rattle.api_members.specs.Authorizers.{authorizers_in}
 use Rattle.api_members.specs.Gateway.{gateways_in}
 use Rattle.api_members.specs.Models.{Models, models_in}
 use Rattle.api_members.specs.Validators.{validators_in}
-use Rattle.api_members.specs.Values.{number_in, object_in}
+use Rattle.api_reading.specs.Values.{number_in, object_in}
 use Rattle.api_resources.specs.Resources.{resources_in}
 
 -- the parts of a definition: a template stands for its text, a pattern for its source, a model for its schemas

@@ -1,19 +1,15 @@
 -- What the getters give of the parts of a definition.
-use Rattle.std.specs.Prelude.{ℕ, Bool, List, [], ◌∷◌, codes, bytes_eq, if◌then◌else◌, Option, Some, None, slice_get}
+use Rattle.std.specs.Prelude.{ℕ, Bool, List, codes, Option, Some, None, slice_get}
 use Rattle.std.specs.Option.{option_map}
 use Rattle.schema_rules.specs.Rules.{Schemas}
+use Rattle.resource_tree.specs.Parameters.{value_at}
 use Rattle.api_parts.specs.Reading.{Text}
 use Rattle.api_parts.specs.declared.parts.GatewayRule.{GatewayRule}
 use Rattle.api_parts.specs.declared.parts.Method.{Method}
 use Rattle.api_parts.specs.declared.parts.Resource.{Resource}
 use Rattle.api_parts.specs.declared.parts.TokenAuthorizer.{TokenAuthorizer}
 use Rattle.api_parts.specs.declared.parts.Validator.{Validator}
-use Rattle.api_model.specs.Document.{Parts}
-
--- the value under this name
-abbrev pub value_at : {A : Type 0} → List (Text × A) → Text → Option A
-value_at [] x = None
-value_at (p ∷ ps) x = if bytes_eq p.0 x then Some p.1 else value_at ps x
+use Rattle.api_model.specs.Definition.{Definition, parts_of}
 
 -- the first, and where it is none, the second
 abbrev pub or_second : {A : Type 0} → Option A → Option A → Option A
@@ -38,3 +34,15 @@ of_method (Some m) f = f m
 abbrev pub whole_of : Option TokenAuthorizer → Option Text
 whole_of None = None
 whole_of (Some a) = a.whole
+
+-- the authorizer of the method of this number
+abbrev pub authorizer_of : Definition → ℕ → Option TokenAuthorizer
+authorizer_of d n = of_method (slice_get (parts_of d).methods n) (λ m. numbered (parts_of d).authorizers m.authorizer)
+
+-- its validator, with the name that this has
+abbrev pub validator_of : Definition → ℕ → Option (Text × Validator)
+validator_of d n = of_method (slice_get (parts_of d).methods n) (λ m. numbered (parts_of d).validators m.validator)
+
+-- and its model for a media type, with the name that this has
+abbrev pub model_of : Definition → ℕ → Text → Option (Text × (Schemas × ℕ))
+model_of d n media = of_method (slice_get (parts_of d).methods n) (λ m. numbered (parts_of d).models (value_at m.models media))

@@ -10,3 +10,7 @@ pub mod Views
 pub mod Kept
 -- verbs lead to methods
 pub mod Ranges
+-- what a definition names is there
+pub mod Named
+-- what methods take from the paths of their resources, and where they go
+pub mod Taken

@@ -1,6 +1,6 @@
 // A definition.
-ghost use Rattle.std.specs.Prelude.{◌≡◌, ◌⊎◌, ◌<◌, length, map, slice_get, IfErr, IfOk, IfSome, MatchResult, None, OnOk, Some, Ok, Err, if◌then◌else◌};
-ghost use Rattle.std.specs.Option.{option_map};
+ghost use Rattle.std.specs.Prelude.{◌≡◌, ◌⊎◌, ◌<◌, length, map, slice_get, IfErr, IfOk, IfSome, MatchOption, MatchResult, None, OnOk, Some, Ok, Err, if◌then◌else◌};
+ghost use Rattle.std.specs.Option.{option_and_then, option_map};
 ghost use Rattle.api_members.specs.Models.{schemas_in};
 ghost use Rattle.api_resources.specs.Paths.{IsTree};
 ghost use Rattle.api_resources.specs.Resources.{path_of};
@@ -8,15 +8,19 @@ ghost use Rattle.api_parts.specs.Reading.{ReadsAs};
 ghost use Rattle.api_model.specs.Document.{no_parts as none};
 ghost use Rattle.api_model.specs.Definition.{document, document_parts, parts_of, stated, text as text_of, text_parts};
 ghost use Rattle.api_model.specs.Views.{read_parts};
-ghost use Rattle.api_model.specs.Getters.{entry_of, numbered, of_method, value_at, whole_of};
+ghost use Rattle.api_model.specs.Getters.{authorizer_of, entry_of, model_of, of_method, validator_of, whole_of};
+ghost use Rattle.api_model.specs.Named.{IsNamed, authorizer_under, model_named, validator_under};
+ghost use Rattle.api_resources.specs.Taken.{ReadsUri};
+ghost use Rattle.pattern_core.specs.Search.{anchored};
+ghost use Rattle.resource_tree.specs.Parameters.{value_at};
 
 use crate::document::{PartsRead, read_document};
-use api_members::read_template;
-use api_members::values::here_is;
 use api_parts::{
     ApiCause, ApiFault, Authorizer, GatewayRule, Integration, Method, Parameter, Resource,
-    TokenAuthorizer, Validator, below, no_memory,
+    TokenAuthorizer, Uri, Validator, below, no_memory,
 };
+use api_reading::read_template;
+use api_reading::values::fault_here;
 use gw_base::{Bytes, Seq, Text};
 use json_subset::{Json, JsonFault};
 use pattern_core::Pattern;
@@ -73,17 +77,20 @@ fn read_bytes(alloc: Global, bytes: &[u8]) -> Result<PartsRead, ApiFault>
     ensures tree { IfOk result (λ r. IsTree (map path_of r.resources) r.tree) }
 {
     if bytes.len() > LIMIT {
-        return Err(here_is(alloc, ApiCause::TooLong));
+        return Err(fault_here(alloc, ApiCause::TooLong));
     }
     match Json::read(alloc, bytes) {
         Ok(doc) => read_document(alloc, &doc),
-        Err(JsonFault::Syntax(at)) => Err(here_is(alloc, ApiCause::Json(JsonFault::Syntax(at)))),
-        Err(JsonFault::Depth(at)) => Err(here_is(alloc, ApiCause::Json(JsonFault::Depth(at)))),
-        Err(JsonFault::Repeated(at)) => Err(here_is(
+        Err(JsonFault::Syntax(at)) => Err(fault_here(alloc, ApiCause::Json(JsonFault::Syntax(at)))),
+        Err(JsonFault::Depth(at)) => Err(fault_here(alloc, ApiCause::Json(JsonFault::Depth(at)))),
+        Err(JsonFault::Repeated(at)) => Err(fault_here(
             alloc,
             ApiCause::Json(JsonFault::Repeated(at)),
         )),
-        Err(JsonFault::NotUtf8(at)) => Err(here_is(alloc, ApiCause::Json(JsonFault::NotUtf8(at)))),
+        Err(JsonFault::NotUtf8(at)) => Err(fault_here(
+            alloc,
+            ApiCause::Json(JsonFault::NotUtf8(at)),
+        )),
         Err(JsonFault::Memory) => Err(no_memory(alloc)),
     }
 }
@@ -333,10 +340,19 @@ impl Api {
         &self.method(method).integration
     }
 
+    /// The pieces of the `uri` of a method's integration, and `None` just where its kind is `MOCK`.
+    pub fn backend(&self, method: u32) -> Option<&Uri>
+        requires { method < length (parts_of self.now).methods }
+        ensures value { option_map (λ u. u.now) result ≡ of_method (slice_get (parts_of self.now).methods method) (λ m. m.integration.backend) }
+        ensures read { MatchOption (slice_get (parts_of self.now).methods method) ⊥ (λ m. ReadsUri m.integration) }
+    {
+        self.method(method).integration.backend.as_ref()
+    }
+
     // The authorizer of a method, with its pattern.
     fn token_authorizer(&self, method: u32) -> Option<&TokenAuthorizer>
         requires { method < length (parts_of self.now).methods }
-        ensures { option_map (λ a. a.now) result ≡ of_method (slice_get (parts_of self.now).methods method) (λ m. numbered (parts_of self.now).authorizers m.authorizer) }
+        ensures { option_map (λ a. a.now) result ≡ authorizer_of self.now method }
     {
         match self.method(method).authorizer {
             Some(number) => self.parts.authorizers.as_slice().get(number as usize),
@@ -344,10 +360,19 @@ impl Api {
         }
     }
 
-    /// The authorizer of a method.
+    /// The authorizer of a method: the one that the document names there, and `None` just where it names none.
     pub fn authorizer(&self, method: u32) -> Option<&Authorizer>
         requires { method < length (parts_of self.now).methods }
-        ensures { option_map (λ a. a.now) result ≡ option_map (λ a. a.authorizer) (of_method (slice_get (parts_of self.now).methods method) (λ m. numbered (parts_of self.now).authorizers m.authorizer)) }
+        ensures value { option_map (λ a. a.now) result ≡ option_map (λ a. a.authorizer) (authorizer_of self.now method) }
+        ensures named { IsNamed (λ a. a.now.name) (authorizer_under self.now method) result }
+    {
+        self.find_authorizer(method)
+    }
+
+    // The authorizer of a method, by its number.
+    fn find_authorizer(&self, method: u32) -> Option<&Authorizer>
+        requires { method < length (parts_of self.now).methods }
+        ensures { option_map (λ a. a.now) result ≡ option_map (λ a. a.authorizer) (authorizer_of self.now method) }
     {
         match self.token_authorizer(method) {
             Some(found) => Some(&found.authorizer),
@@ -358,7 +383,18 @@ impl Api {
     /// The pattern `P` of a method's authorizer, compiled as `^(?:P)$`: a search finds just the whole tokens that `P` matches.
     pub fn token_pattern(&self, method: u32) -> Option<&Pattern>
         requires { method < length (parts_of self.now).methods }
-        ensures { option_map (λ p. p.now) result ≡ whole_of (of_method (slice_get (parts_of self.now).methods method) (λ m. numbered (parts_of self.now).authorizers m.authorizer)) }
+        ensures value { option_map (λ p. p.now) result ≡ whole_of (authorizer_of self.now method) }
+
+        // It is there just where the authorizer is, with a pattern.
+        ensures pattern { option_map (λ p. p.now) result ≡ option_and_then (λ a. option_map anchored a.authorizer.pattern) (authorizer_of self.now method) }
+    {
+        self.find_pattern(method)
+    }
+
+    // The compiled pattern of a method's authorizer.
+    fn find_pattern(&self, method: u32) -> Option<&Pattern>
+        requires { method < length (parts_of self.now).methods }
+        ensures { option_map (λ p. p.now) result ≡ whole_of (authorizer_of self.now method) }
     {
         match self.token_authorizer(method) {
             Some(found) => found.whole.as_ref(),
@@ -366,10 +402,20 @@ impl Api {
         }
     }
 
-    /// What of a method's requests is checked.
+    /// What of a method's requests is checked: by the validator that the document names there, and `None` just where it
+    /// names none.
     pub fn validator(&self, method: u32) -> Option<Validator>
         requires { method < length (parts_of self.now).methods }
-        ensures { result ≡ option_map (λ v. v.1) (of_method (slice_get (parts_of self.now).methods method) (λ m. numbered (parts_of self.now).validators m.validator)) }
+        ensures value { result ≡ option_map (λ v. v.1) (validator_of self.now method) }
+        ensures named { IsNamed (λ v. v.0) (validator_under self.now method) (validator_of self.now method) }
+    {
+        self.find_validator(method)
+    }
+
+    // The validator of a method, by its number.
+    fn find_validator(&self, method: u32) -> Option<Validator>
+        requires { method < length (parts_of self.now).methods }
+        ensures { result ≡ option_map (λ v. v.1) (validator_of self.now method) }
     {
         let Some(number) = self.method(method).validator else {
             return None;
@@ -380,10 +426,20 @@ impl Api {
         }
     }
 
-    /// The model under just this name in a method's `models`: a media type, or `$default`.
+    /// The model under just this name in a method's `models`, a media type or `$default`: the one that the document names
+    /// there, and `None` just where it names none.
     pub fn model(&self, method: u32, media: &str) -> Option<&Schema>
         requires { method < length (parts_of self.now).methods }
-        ensures { option_map (λ s. schemas_in s.now) result ≡ option_map (λ x. x.1) (of_method (slice_get (parts_of self.now).methods method) (λ m. numbered (parts_of self.now).models (value_at m.models media.now))) }
+        ensures value { option_map (λ s. schemas_in s.now) result ≡ option_map (λ x. x.1) (model_of self.now method media.now) }
+        ensures named { IsNamed (λ m. m.0) (model_named self.now method media.now) (model_of self.now method media.now) }
+    {
+        self.find_model(method, media)
+    }
+
+    // The model of a method for a media type, by its number.
+    fn find_model(&self, method: u32, media: &str) -> Option<&Schema>
+        requires { method < length (parts_of self.now).methods }
+        ensures { option_map (λ s. schemas_in s.now) result ≡ option_map (λ x. x.1) (model_of self.now method media.now) }
     {
         let Some(number) = named(self.method(method).models.as_slice(), media) else {
             return None;

@@ -7,9 +7,10 @@ ghost use Rattle.api_resources.specs.Resources.{path_of};
 ghost use Rattle.api_model.specs.Document as says;
 ghost use Rattle.api_model.specs.Views.{IsPlanted, read_parts, top_of};
 
-use api_members::values::{member_at, missing, number, object, unknown};
-use api_members::{read_authorizers, read_gateways, read_models, read_validators, waits};
+use api_members::{read_authorizers, read_gateways, read_models, read_validators};
 use api_parts::{ApiFault, GatewayRule, Method, Resource, TokenAuthorizer, Validator, below};
+use api_reading::values::{member_at, missing_member, number, object, unknown_member};
+use api_reading::waits;
 use api_resources::read_resources;
 use gw_base::{Seq, Text};
 use json_subset::{Doc, NodeId};
@@ -151,7 +152,7 @@ fn add_member(
     if name == "gatewayResponses" {
         return add_gateways(alloc, doc, read, name, id);
     }
-    Err(unknown(alloc, name))
+    Err(unknown_member(alloc, name))
 }
 
 // The parts, where all that must stand is there, and no fault waits.
@@ -173,10 +174,10 @@ fn settle(alloc: Global, read: TopRead) -> Result<PartsRead, ApiFault>
         waiting,
     } = read;
     if !version {
-        return Err(missing(alloc, "version"));
+        return Err(missing_member(alloc, "version"));
     }
     if !listed {
-        return Err(missing(alloc, "resources"));
+        return Err(missing_member(alloc, "resources"));
     }
     match waiting {
         Some(fault) => Err(fault),

@@ -21,13 +21,18 @@
 //! exactly where `stated` of `specs/Definition.antt` has parts, or just the fault that it has, with its place; want of
 //! memory alone has no cause. Each getter gives its part of `parts_of`, takes no memory, and answers `None` just where the
 //! definition has none. `stated` is a function of the bytes: it reads the members in their order, by the definitions of
-//! `api_members` and `api_resources`.
+//! `api_reading`, `api_members` and `api_resources`.
 //!
-//! As laws ([`laws`]), an `Api` may go to another thread and be shared with one, and each verb of a resource has the number
-//! of a method, so [`Api::entry`] answers no other.
+//! Where the document names an authorizer, a validator or a model for a method, [`Api::authorizer`], [`Api::validator`]
+//! and [`Api::model`] answer that one, and `None` just where it names none; so does [`Api::token_pattern`] where the
+//! authorizer has a pattern. [`Api::backend`] gives the pieces of an integration's `uri`, so that no request reads it again.
 //!
-//! Not promised: that what is stated is read, since want of memory is free. `authorizer`, `validator` and
-//! `model` look a part up by its number; no clause says that each number of a method is one of these.
+//! As laws ([`laws`]): an `Api` may go to another thread and be shared with one; each verb of a resource has the number of a
+//! method, so [`Api::entry`] answers no other; what a method names is found, and has the name; each
+//! `method.request.path.N` names a parameter of the resource's path, and has a value where a request for that resource is
+//! found; each integration with a backend has the pieces of its `uri`.
+//!
+//! Not promised: that what is stated is read, since want of memory is free.
 #![tactic(auto)]
 
 mod api;
@@ -36,9 +41,7 @@ pub mod laws;
 
 pub use api::Api;
 pub use api_parts::{
-    ApiCause, ApiFault, Authorizer, GatewayRule, Integration, IntegrationKind, Mapping, ModelFault,
-    Origin, Parameter, ParameterPlace, Passthrough, ResponseRule, Validator,
+    ApiCause, ApiFault, Authorizer, GatewayRule, Host, Integration, IntegrationKind, Mapping,
+    ModelFault, Origin, Parameter, ParameterPlace, Passthrough, Piece, ResponseRule, Uri,
+    Validator,
 };
-
-#[cfg(test)]
-mod tests;

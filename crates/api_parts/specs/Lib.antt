@@ -1,3 +1,5 @@
+-- the hosts of backends
+pub mod Hosts
 -- the places of faults
 pub mod Places
 -- what is printed of a cause

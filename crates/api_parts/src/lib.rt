@@ -18,6 +18,7 @@
 mod fault;
 mod parts;
 mod places;
+mod uri;
 
 pub use fault::{ApiCause, ApiFault, ModelFault};
 pub use parts::{
@@ -25,3 +26,4 @@ pub use parts::{
     ParameterPlace, Passthrough, Resource, ResponseRule, TokenAuthorizer, Validator,
 };
 pub use places::{below, no_memory};
+pub use uri::{Host, Piece, Uri};

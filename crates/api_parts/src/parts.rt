@@ -1,4 +1,5 @@
 // What a definition states of its methods.
+use crate::uri::Uri;
 use gw_base::{Seq, Text};
 use jsonpath_core::Path;
 use pattern_core::Pattern;
@@ -109,12 +110,14 @@ pub struct ResponseRule {
     pub templates: Seq<(Text, Template)>,
 }
 
-/// How a method is answered. Of [`IntegrationKind::Mock`] `method` and `uri` are empty.
+/// How a method is answered. Of [`IntegrationKind::Mock`] `method` and `uri` are empty, and there is no `backend`.
 #[derive(Drop)]
 pub struct Integration {
     pub kind: IntegrationKind,
     pub method: Text,
     pub uri: Text,
+    /// The pieces of `uri`.
+    pub backend: Option<Uri>,
     pub passthrough: Passthrough,
     pub parameters: Seq<Mapping>,
     /// Each media type with its template.

@@ -12,10 +12,11 @@ use Rattle.api_parts.specs.declared.parts.IntegrationKind.TheVariants.{Mock, Htt
 use Rattle.api_parts.specs.declared.parts.Passthrough.{Passthrough}
 use Rattle.api_parts.specs.declared.parts.Passthrough.TheVariants.{WhenNoMatch, WhenNoTemplates, Never}
 use Rattle.api_mappings.specs.Uris.{uri_of}
-use Rattle.api_mappings.specs.declared.piece.Piece.{Piece}
-use Rattle.api_mappings.specs.declared.piece.Piece.TheVariants.{Literal, Variable, Placeholder}
-use Rattle.api_members.specs.Texts.{templates_in}
-use Rattle.api_members.specs.Values.{number_in, object_in, text_in}
+use Rattle.api_parts.specs.declared.uri.Uri.{Uri}
+use Rattle.api_parts.specs.declared.uri.Piece.{Piece}
+use Rattle.api_parts.specs.declared.uri.Piece.TheVariants.{Literal, Variable, Placeholder}
+use Rattle.api_reading.specs.Texts.{templates_in}
+use Rattle.api_reading.specs.Values.{number_in, object_in, text_in}
 use Rattle.api_resources.specs.declared.integrations.IntegrationRead.{IntegrationRead}
 use Rattle.api_resources.specs.declared.mapped.Side.TheVariants.{Request}
 use Rattle.api_resources.specs.Mapped.{mappings_in}
@@ -81,9 +82,9 @@ has_mapping ps (Placeholder n) = is_mapped ps n
 abbrev pub uri_waiting : Option Tree → Text → List Piece → Waiting
 uri_waiting ps x path = if list_all (has_mapping ps) path then None else Some (fault_below x (here BadMapping))
 
-abbrev pub with_uri : Option Tree → IntegrationRead → Text → Text → Option (List Piece × List Piece) → Read IntegrationRead
+abbrev pub with_uri : Option Tree → IntegrationRead → Text → Text → Option Uri → Read IntegrationRead
 with_uri ps i x u None = Err (here BadUri)
-with_uri ps i x u (Some pieces) = Ok (record i { uri = Some u; waiting = first_of i.waiting (uri_waiting ps x pieces.1) })
+with_uri ps i x u (Some backend) = Ok (record i { uri = Some (u, backend); waiting = first_of i.waiting (uri_waiting ps x backend.path) })
 
 -- mappings, templates, rules and the timeout
 abbrev pub inner_row : Text → IntegrationRead → Text → Tree → Read IntegrationRead
@@ -109,20 +110,20 @@ integration_member kind ps path i x t = if may_have kind x then integration_row 
 abbrev pub no_integration : IntegrationRead
 no_integration = record { method = None; uri = None; passthrough = WhenNoMatch; parameters = []; templates = []; responses = []; timeout = 29000; waiting = None }
 
-abbrev pub made : IntegrationKind → IntegrationRead → Text → Text → Integration × Waiting
-made kind i method uri =
-    (record { kind = kind; method = method; uri = uri; passthrough = i.passthrough; parameters = i.parameters; templates = i.templates; responses = i.responses; timeout = i.timeout }, i.waiting)
+abbrev pub made : IntegrationKind → IntegrationRead → Text → Text → Option Uri → Integration × Waiting
+made kind i method uri backend =
+    (record { kind = kind; method = method; uri = uri; backend = backend; passthrough = i.passthrough; parameters = i.parameters; templates = i.templates; responses = i.responses; timeout = i.timeout }, i.waiting)
 
 abbrev pub with_backend : IntegrationKind → IntegrationRead → Read (Integration × Waiting)
-with_backend kind i = needed (codes "method") i.method >>= λ m. needed (codes "uri") i.uri >>= λ u. Ok (made kind i m u)
+with_backend kind i = needed (codes "method") i.method >>= λ m. needed (codes "uri") i.uri >>= λ u. Ok (made kind i m u.0 (Some u.1))
 
 abbrev pub integration_of : Option IntegrationKind → IntegrationRead → Read (Integration × Waiting)
 integration_of None i = Err (here (Missing (codes "type")))
-integration_of (Some Mock) i = Ok (made Mock i [] [])
+integration_of (Some Mock) i = Ok (made Mock i [] [] None)
 integration_of (Some Http) i = with_backend Http i
 integration_of (Some HttpProxy) i = with_backend HttpProxy i
 
 -- the integration of a method of the resource of this path
-abbrev pub integration_in : Text → Text → Tree → Read (Integration × Waiting)
+unfoldable pub integration_in : Text → Text → Tree → Read (Integration × Waiting)
 integration_in path name t =
     object_in name t >>= λ ms. each (integration_member (kind_of t) (member_named (form t) (codes "parameters")) path) no_integration ms >>= integration_of (kind_of t)

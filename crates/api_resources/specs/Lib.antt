@@ -10,3 +10,7 @@ pub mod Methods
 pub mod Resources
 -- the tree of the resources' paths
 pub mod Paths
+-- what the methods of a document name
+pub mod Named
+-- what a method takes from its path, and where it goes
+pub mod Taken

@@ -6,7 +6,7 @@ use Rattle.api_parts.specs.Places.{fault_below}
 use Rattle.api_parts.specs.declared.fault.ApiCause.TheVariants.{BadMapping}
 use Rattle.api_parts.specs.declared.parts.Origin.{Origin}
 use Rattle.api_mappings.specs.Mappings.{Spot, request_source, request_target, response_source, response_target}
-use Rattle.api_members.specs.Values.{object_in, text_in}
+use Rattle.api_reading.specs.Values.{object_in, text_in}
 use Rattle.api_resources.specs.declared.mapped.Side.{Side}
 use Rattle.api_resources.specs.declared.mapped.Side.TheVariants.{Request, Response}
 use Rattle.api_resources.specs.declared.mapped.MappingsRead.{MappingsRead}

@@ -8,7 +8,7 @@ use Rattle.api_parts.specs.Places.{fault_below}
 use Rattle.api_parts.specs.declared.fault.ApiCause.TheVariants.{BadMapping, NoSuch}
 use Rattle.api_parts.specs.declared.parts.Method.{Method}
 use Rattle.api_mappings.specs.Mappings.{Spot, parameter_of}
-use Rattle.api_members.specs.Values.{flag_in, object_in, text_in}
+use Rattle.api_reading.specs.Values.{flag_in, object_in, text_in}
 use Rattle.api_resources.specs.declared.methods.MethodRead.{MethodRead}
 use Rattle.api_resources.specs.declared.methods.ParametersRead.{ParametersRead}
 use Rattle.api_resources.specs.declared.methods.NamedRead.{NamedRead}

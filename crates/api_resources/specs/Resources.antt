@@ -7,7 +7,7 @@ use Rattle.api_parts.specs.Reading.{Text, Read, ◌>>=◌, bad, each, here, unkn
 use Rattle.api_parts.specs.declared.fault.ApiCause.TheVariants.{Tree as TreeCause}
 use Rattle.api_parts.specs.declared.parts.Method.{Method}
 use Rattle.api_parts.specs.declared.parts.Resource.{Resource}
-use Rattle.api_members.specs.Values.{object_in}
+use Rattle.api_reading.specs.Values.{object_in}
 use Rattle.api_resources.specs.declared.resources.VerbsRead.{VerbsRead}
 use Rattle.api_resources.specs.declared.resources.ResourcesRead.{ResourcesRead}
 use Rattle.api_resources.specs.Integrations.{is_verb}

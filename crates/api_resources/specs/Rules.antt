@@ -4,8 +4,8 @@ use Rattle.json_subset.specs.Tree.{Tree}
 use Rattle.api_parts.specs.Reading.{Text, Read, ◌>>=◌, each, here, needed, unknown, Waiting, first_of, waiting_below}
 use Rattle.api_parts.specs.declared.fault.ApiCause.TheVariants.{TwoDefaults}
 use Rattle.api_parts.specs.declared.parts.ResponseRule.{ResponseRule}
-use Rattle.api_members.specs.Texts.{pattern_in, templates_in}
-use Rattle.api_members.specs.Values.{list_in, number_in, object_in}
+use Rattle.api_reading.specs.Texts.{pattern_in, templates_in}
+use Rattle.api_reading.specs.Values.{list_in, number_in, object_in}
 use Rattle.api_resources.specs.declared.mapped.Side.TheVariants.{Response}
 use Rattle.api_resources.specs.declared.rules.RuleRead.{RuleRead}
 use Rattle.api_resources.specs.declared.rules.RulesRead.{RulesRead}

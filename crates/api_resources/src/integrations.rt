@@ -9,13 +9,15 @@ ghost use Rattle.api_resources.specs.Integrations as says;
 
 use crate::mapped::{Side, read_mappings};
 use crate::rules::read_rules;
-use api_mappings::{Piece, read_uri};
-use api_members::values::{bad, here_is, member_at, missing, number, object, text, unknown};
-use api_members::{bad_mapping, read_templates, waits};
+use api_mappings::read_uri;
 use api_parts::{
-    ApiCause, ApiFault, Integration, IntegrationKind, Mapping, Passthrough, ResponseRule, below,
-    no_memory,
+    ApiCause, ApiFault, Integration, IntegrationKind, Mapping, Passthrough, Piece, ResponseRule,
+    Uri, below, no_memory,
 };
+use api_reading::values::{
+    bad_member, fault_here, member_at, missing_member, number, object, text, unknown_member,
+};
+use api_reading::{bad_mapping, read_templates, waits};
 use gw_base::{Memory, Seq, Text};
 use json_subset::{Doc, NodeId};
 use std::alloc::Global;
@@ -25,7 +27,7 @@ use vtl_reader::Template;
 #[derive(Drop)]
 pub struct IntegrationRead {
     pub method: Option<Text>,
-    pub uri: Option<Text>,
+    pub uri: Option<(Text, Uri)>,
     pub passthrough: Passthrough,
     pub parameters: Seq<Mapping>,
     pub templates: Seq<(Text, Template)>,
@@ -108,7 +110,7 @@ fn read_method(alloc: Global, doc: &Doc, name: &str, id: NodeId) -> Result<Text,
     if is_verb(method.as_str()) {
         Ok(method)
     } else {
-        Err(bad(alloc, name))
+        Err(bad_member(alloc, name))
     }
 }
 
@@ -129,7 +131,7 @@ fn read_passthrough(
     } else if text.as_str() == "NEVER" {
         Ok(Passthrough::Never)
     } else {
-        Err(bad(alloc, name))
+        Err(bad_member(alloc, name))
     }
 }
 
@@ -216,14 +218,15 @@ fn with_uri(
 {
     match read_uri(alloc, text.as_str()) {
         Ok(Some(uri)) => {
-            let waiting = uri_waits(alloc, doc, parameters, read.waiting, name, &uri.path)?;
+            let path = uri.path.as_slice();
+            let waiting = uri_waits(alloc, doc, parameters, read.waiting, name, path)?;
             Ok(IntegrationRead {
-                uri: Some(text),
+                uri: Some((text, uri)),
                 waiting,
                 ..read
             })
         }
-        Ok(None) => Err(here_is(alloc, ApiCause::BadUri)),
+        Ok(None) => Err(fault_here(alloc, ApiCause::BadUri)),
         Err(_) => Err(no_memory(alloc)),
     }
 }
@@ -266,7 +269,7 @@ fn add_inner(
         let timeout = number(alloc, doc, 50, 29_000, name, id)?;
         return Ok(IntegrationRead { timeout, ..read });
     }
-    Err(unknown(alloc, name))
+    Err(unknown_member(alloc, name))
 }
 
 /// What is known of an integration before its members are read: what its type names, its `parameters`, and the path of
@@ -294,7 +297,7 @@ fn add_row(
         return if around.kind.is_some() {
             Ok(read)
         } else {
-            Err(bad(alloc, name))
+            Err(bad_member(alloc, name))
         };
     }
     if name == "method" {
@@ -333,17 +336,18 @@ fn add_member(
     if may_have(around.kind, name) {
         add_row(alloc, doc, around, read, name, id)
     } else {
-        Err(unknown(alloc, name))
+        Err(unknown_member(alloc, name))
     }
 }
 
-fn made(
+fn make(
     kind: IntegrationKind,
     read: IntegrationRead,
     method: Text,
     uri: Text,
+    backend: Option<Uri>,
 ) -> (Integration, Option<ApiFault>)
-    ensures { result ≡ says.made kind read method uri }
+    ensures { result ≡ says.made kind read method uri backend }
 {
     let IntegrationRead {
         method: _,
@@ -360,6 +364,7 @@ fn made(
             kind,
             method,
             uri,
+            backend,
             passthrough,
             parameters,
             templates,
@@ -379,12 +384,12 @@ fn with_backend(
 {
     let mut read = read;
     let Some(method) = read.method.take() else {
-        return Err(missing(alloc, "method"));
+        return Err(missing_member(alloc, "method"));
     };
-    let Some(uri) = read.uri.take() else {
-        return Err(missing(alloc, "uri"));
+    let Some((uri, backend)) = read.uri.take() else {
+        return Err(missing_member(alloc, "uri"));
     };
-    Ok(made(kind, read, method, uri))
+    Ok(make(kind, read, method, uri, Some(backend)))
 }
 
 fn integration_of(
@@ -395,15 +400,16 @@ fn integration_of(
     ensures { Reads (says.integration_of kind read) result }
 {
     match kind {
-        Some(IntegrationKind::Mock) => Ok(made(
+        Some(IntegrationKind::Mock) => Ok(make(
             IntegrationKind::Mock,
             read,
             Text::of(String::new(alloc)),
             Text::of(String::new(alloc)),
+            None,
         )),
         Some(IntegrationKind::Http) => with_backend(alloc, IntegrationKind::Http, read),
         Some(IntegrationKind::HttpProxy) => with_backend(alloc, IntegrationKind::HttpProxy, read),
-        None => Err(missing(alloc, "type")),
+        None => Err(missing_member(alloc, "type")),
     }
 }
 
@@ -419,6 +425,7 @@ fn parameters_of(doc: &Doc, id: NodeId) -> Option<NodeId>
 }
 
 /// The integration of a method of the resource of this path.
+#[tactic(auto, unfolding(crate::specs::Integrations::integration_in))]
 pub fn read_integration(
     alloc: Global,
     doc: &Doc,

@@ -19,8 +19,8 @@
 //! is there where no fault waits. Which members an integration may have goes by its `type`, which is looked up first; so
 //! are the names of validators, authorizers and models, in the document. Want of memory alone has no cause.
 //!
-//! Cost: one walk over the value; a name is looked up among the members of its kind one by one, and each path is
-//! compared with those before it.
+//! How it is built, which nothing here promises: one walk over the value; a name is looked up among the members of its
+//! kind one by one, and each path is compared with those before it.
 #![tactic(auto)]
 
 mod integrations;

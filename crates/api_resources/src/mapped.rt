@@ -6,9 +6,9 @@ ghost use Rattle.api_parts.specs.Reading.{Reads};
 ghost use Rattle.api_resources.specs.Mapped as says;
 
 use api_mappings::{request_source, request_target, response_source, response_target};
-use api_members::bad_mapping;
-use api_members::values::{copied, member_at, object, text};
 use api_parts::{ApiCause, ApiFault, Mapping, Origin, ParameterPlace, below, no_memory};
+use api_reading::bad_mapping;
+use api_reading::values::{copy, member_at, object, text};
 use gw_base::{Memory, Seq};
 use json_subset::{Doc, NodeId};
 use std::alloc::Global;
@@ -59,7 +59,7 @@ fn with_mapping(
     match target(side, name) {
         Some((place, target)) => match origin {
             Some(origin) => {
-                let target = copied(alloc, target)?;
+                let target = copy(alloc, target)?;
                 let mut list = read.list;
                 match list.push(Mapping {
                     place,

@@ -7,13 +7,13 @@ ghost use Rattle.api_resources.specs.Methods as says;
 
 use crate::integrations::read_integration;
 use api_mappings::parameter;
-use api_members::values::{
-    copied, entry_count, flag, here_is, member_at, missing, object, text, unknown,
-};
-use api_members::{bad_mapping, waits};
 use api_parts::{
     ApiCause, ApiFault, Integration, Method, Parameter, ParameterPlace, below, no_memory,
 };
+use api_reading::values::{
+    copy, entry_count, fault_here, flag, member_at, missing_member, object, text, unknown_member,
+};
+use api_reading::{bad_mapping, waits};
 use gw_base::{Seq, Text};
 use json_subset::{Doc, NodeId};
 use std::alloc::Global;
@@ -82,7 +82,7 @@ fn no_such(
         alloc,
         before,
         name,
-        Some(here_is(alloc, ApiCause::NoSuch(other))),
+        Some(fault_here(alloc, ApiCause::NoSuch(other))),
     )
 }
 
@@ -123,7 +123,7 @@ fn with_parameter(
 ) -> Result<ParametersRead, ApiFault>
     ensures { MatchResult result (λ r. r ≡ says.with_parameter read [] required (Some (place, name.now))) (λ e. e.cause ≡ ApiCause.Memory) }
 {
-    let name = copied(alloc, name)?;
+    let name = copy(alloc, name)?;
     let mut list = read.list;
     match list.push(Parameter {
         place,
@@ -176,7 +176,7 @@ fn add_model(
     let other = text(alloc, doc, name, id)?;
     match number_among(doc, "models", other.as_str()) {
         Some(number) => {
-            let name = copied(alloc, name)?;
+            let name = copy(alloc, name)?;
             let mut list = read.list;
             match list.push((name, number)) {
                 Ok(()) => Ok(NamedRead {
@@ -325,7 +325,7 @@ fn add_inner(
             ..read
         });
     }
-    Err(unknown(alloc, name))
+    Err(unknown_member(alloc, name))
 }
 
 fn method_of(
@@ -345,9 +345,9 @@ fn method_of(
         waiting,
     } = read;
     let Some(integration) = integration else {
-        return Err(missing(alloc, "integration"));
+        return Err(missing_member(alloc, "integration"));
     };
-    let verb = copied(alloc, verb)?;
+    let verb = copy(alloc, verb)?;
     let method = Method {
         verb,
         api_key_required,

@@ -8,9 +8,9 @@ ghost use Rattle.api_resources.specs.Paths.{HasTree, IsTold, IsTreeFor, own_faul
 
 use crate::integrations::is_verb;
 use crate::methods::read_method;
-use api_members::values::{bad, copied, here_is, member_at, object, unknown};
-use api_members::waits;
 use api_parts::{ApiCause, ApiFault, Method, Resource, below, no_memory};
+use api_reading::values::{bad_member, copy, fault_here, member_at, object, unknown_member};
+use api_reading::waits;
 use gw_base::{Seq, Text};
 use json_subset::{Doc, NodeId};
 use resource_tree::{Tree, TreeFault};
@@ -51,7 +51,7 @@ fn with_method(
     ensures { MatchResult result (λ r. r ≡ says.with_method read name.now (method, fault)) (λ e. e.cause ≡ ApiCause.Memory) }
 {
     let waiting = waits(alloc, read.waiting, name, fault)?;
-    let name = copied(alloc, name)?;
+    let name = copy(alloc, name)?;
     let Ok(number) = u32::try_from(read.methods.as_slice().len()) else {
         return Err(no_memory(alloc));
     };
@@ -82,7 +82,7 @@ fn add_method(
     ensures { Reads (says.verbs_member (root_tree doc.now) path.now read name.now (part doc.now id)) result }
 {
     if !is_entry(name) {
-        return Err(unknown(alloc, name));
+        return Err(unknown_member(alloc, name));
     }
     let (method, fault) = read_method(alloc, doc, path, name, id)?;
     with_method(alloc, read, name, method, fault)
@@ -119,7 +119,7 @@ fn path_waiting(alloc: Global, fault: Option<TreeFault>) -> Option<ApiFault>
     ensures { result ≡ says.path_waiting fault }
 {
     match fault {
-        Some(fault) => Some(here_is(alloc, ApiCause::Tree(fault))),
+        Some(fault) => Some(fault_here(alloc, ApiCause::Tree(fault))),
         None => None,
     }
 }
@@ -150,7 +150,7 @@ fn with_resource(
     } = verbs;
     let inner = or_later(path_waiting(alloc, fault), waiting);
     let waiting = waits(alloc, all.waiting, path, inner)?;
-    let path = copied(alloc, path)?;
+    let path = copy(alloc, path)?;
     let mut list = all.list;
     match list.push(Resource { path, verbs }) {
         Ok(()) => Ok(ResourcesRead {
@@ -196,7 +196,7 @@ fn names(alloc: Global, doc: &Doc, id: NodeId, count: u32) -> Result<Vec<Text>, 
     let mut names = Vec::new(alloc);
     for i in 0..count {
         let (member, _) = member_at(doc, id, i);
-        let name = copied(alloc, member)?;
+        let name = copy(alloc, member)?;
         let Ok(()) = names.push(name) else {
             return Err(no_memory(alloc));
         };
@@ -290,7 +290,7 @@ pub fn read_resources(
 {
     let count = object(alloc, doc, name, id)?;
     if count > RESOURCES {
-        return Err(bad(alloc, name));
+        return Err(bad_member(alloc, name));
     }
     let paths = names(alloc, doc, id, count)?;
     let built = build(alloc, &paths)?;

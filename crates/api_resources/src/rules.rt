@@ -6,9 +6,11 @@ ghost use Rattle.api_parts.specs.Reading.{Reads};
 ghost use Rattle.api_resources.specs.Rules as says;
 
 use crate::mapped::{Side, read_mappings};
-use api_members::values::{here_is, item_at, list, member_at, missing, number, object, unknown};
-use api_members::{pattern, read_templates, waits};
 use api_parts::{ApiCause, ApiFault, Mapping, ResponseRule, below, no_memory};
+use api_reading::values::{
+    fault_here, item_at, list, member_at, missing_member, number, object, unknown_member,
+};
+use api_reading::{pattern, read_templates, waits};
 use gw_base::{Seq, Text};
 use json_subset::{Doc, NodeId};
 use status_table::StatusTable;
@@ -70,7 +72,7 @@ fn add_member(
         let templates = read_templates(alloc, doc, name, id)?;
         return Ok(RuleRead { templates, ..read });
     }
-    Err(unknown(alloc, name))
+    Err(unknown_member(alloc, name))
 }
 
 fn rule_of(alloc: Global, read: RuleRead) -> Result<(ResponseRule, Option<ApiFault>), ApiFault>
@@ -93,7 +95,7 @@ fn rule_of(alloc: Global, read: RuleRead) -> Result<(ResponseRule, Option<ApiFau
             },
             waiting,
         )),
-        None => Err(missing(alloc, "status")),
+        None => Err(missing_member(alloc, "status")),
     }
 }
 
@@ -135,7 +137,7 @@ fn with_rule(
 {
     let is_default = rule.pattern.is_none();
     if is_default && all.has_default {
-        return Err(here_is(alloc, ApiCause::TwoDefaults));
+        return Err(fault_here(alloc, ApiCause::TwoDefaults));
     }
     let waiting = waits(alloc, all.waiting, name, fault)?;
     let has_default = all.has_default || is_default;

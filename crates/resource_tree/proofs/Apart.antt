@@ -18,14 +18,14 @@ tails : {X : Type 0} {x y : X} {xs ys : List X} → x ∷ xs ≡ y ∷ ys → xs
 tails e = cc
 
 -- what was read at a place
-read_there : (paths : List (List Part)) (texts : List (List ℕ)) (at : ℕ) → map (λ parts. Some parts) paths ≡ map parts_of texts → at < length paths → parts_of (get_or texts at []) ≡ Some (path_at paths at)
+pub read_there : (paths : List (List Part)) (texts : List (List ℕ)) (at : ℕ) → map (λ parts. Some parts) paths ≡ map parts_of texts → at < length paths → parts_of (get_or texts at []) ≡ Some (path_at paths at)
 read_there [] texts at e less = absurd (omega arith)
 read_there (parts ∷ paths) [] at e less = absurd (cc)
 read_there (parts ∷ paths) (text ∷ texts) zero e less = sym (heads e)
 read_there (parts ∷ paths) (text ∷ texts) (suc at) e less = read_there paths texts at (tails e) (omega arith)
 
 module _ (texts : List (List ℕ)) (paths : List (List Part)) (good : HasNoFault texts) (read : map (λ parts. Some parts) paths ≡ map parts_of texts) where
-  no_fault_at : (at : ℕ) → at < length paths → (greedy_last (path_at paths at) ≡ true) × (list_any (λ other. clashes other (path_at paths at)) (take at paths) ≡ false)
+  pub no_fault_at : (at : ℕ) → at < length paths → (greedy_last (path_at paths at) ≡ true) × (list_any (λ other. clashes other (path_at paths at)) (take at paths) ≡ false)
   no_fault_at at less =
       let count : length paths ≡ length texts = sym (length-map paths (λ parts. Some parts)) ∙ ap length read ∙ length-map texts parts_of in
       let front : map (λ parts. Some parts) (take at paths) ≡ map parts_of (take at texts) = sym (take-map (λ parts. Some parts) at paths) ∙ ap (take at) read ∙ take-map parts_of at texts in

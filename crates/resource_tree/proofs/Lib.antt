@@ -28,3 +28,5 @@ pub mod Taken
 pub mod Tried
 -- paths that match the same segments with the same ranks
 pub mod Unique
+-- each parameter of a path has a value
+pub mod Values

@@ -8,6 +8,8 @@ pub mod Matching
 pub mod Nodes
 -- the order in which the paths of a tree are tried
 pub mod Order
+-- the parameters of a path, by their names
+pub mod Parameters
 -- how a path is read as its parts
 pub mod Reading
 -- how parts are compared, and which parts clash

@@ -1,8 +1,9 @@
 // What a request's path gives: its resource, and the parameters.
-ghost use Rattle.std.specs.Prelude.{◌≡◌, ◌∷◌, ◌++◌, IfOk, OnOk};
+ghost use Rattle.std.specs.Prelude.{◌≡◌, ◌∷◌, ◌++◌, ℕ, List, true, IfOk, IsSome, OnOk};
 ghost use Rattle.std.specs.List.{join_with_byte};
 ghost use Rattle.std.specs.String.{string_bytes};
 ghost use Rattle.resource_tree.specs.Matching.{IsBest, params, path_at};
+ghost use Rattle.resource_tree.specs.Parameters.{has_parameter, value_at};
 
 use crate::part::Part;
 use crate::tree::{Hit, Tree};
@@ -29,6 +30,9 @@ impl Found {
         requires { IsBest tree.now segments.now hit.resource }
         ensures resource { IfOk result (λ found. found.resource ≡ hit.resource) }
         ensures params { IfOk result (λ found. found.params ≡ params (path_at tree.now hit.resource) segments.now) }
+
+        // Each parameter of the path has a value.
+        ensures each { IfOk result (λ found. (name : List ℕ) → has_parameter name (path_at tree.now hit.resource) ≡ true → IsSome (value_at found.params name)) }
     {
         let params = params_of(alloc, tree.path(hit), segments)?;
         Ok(Found {
@@ -52,7 +56,7 @@ fn params_of(alloc: Global, parts: &[Part], segments: &[Text]) -> Result<Vec<(Te
             Part::Literal(_) => {}
             Part::Parameter(name) => found.push((name.copy(alloc)?, segment.copy(alloc)?))?,
             Part::Greedy(name) => {
-                found.push((name.copy(alloc)?, joined(alloc, rest)?))?;
+                found.push((name.copy(alloc)?, join(alloc, rest)?))?;
                 return Ok(found);
             }
         }
@@ -62,7 +66,7 @@ fn params_of(alloc: Global, parts: &[Part], segments: &[Text]) -> Result<Vec<(Te
 }
 
 /// The segments, joined by `/`.
-fn joined(alloc: Global, segments: &[Text]) -> Result<Text, Memory>
+fn join(alloc: Global, segments: &[Text]) -> Result<Text, Memory>
     ensures { IfOk result (λ text. text ≡ join_with_byte 47 segments.now) }
 {
     let Some((first, others)) = segments.split_first() else {

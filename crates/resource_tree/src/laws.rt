@@ -1,5 +1,6 @@
 // What holds of paths, of their faults, and of the best.
 ghost use Rattle.resource_tree.specs.Laws.{ReadsAsSpelled, FindsEachClash, MatchesAsTaken, TellsEachCause, HasOneFirstFault, DifferInRanks, HasOneBest};
+ghost use Rattle.resource_tree.specs.Parameters.{GivesEachValue};
 
 /// A path is read as just the parts that it is written with.
 pub fn a_path_is_read_as_it_is_written()
@@ -34,4 +35,10 @@ pub fn two_paths_differ_in_their_ranks()
 /// One path of a list that is built is best.
 pub fn one_path_is_best()
     ensures { HasOneBest }
+{}
+
+/// Each parameter of a path has a value, where the path matches.
+#[tactic(auto, using(crate::proofs::Values::gives_each))]
+pub fn each_parameter_has_a_value()
+    ensures { GivesEachValue }
 {}

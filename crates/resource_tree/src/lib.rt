@@ -32,13 +32,13 @@
 //! `specs/Matching.antt`, with `IsBest`, which speaks of the list of paths alone. [`Tree::build`]
 //! promises that it answers the parts of each path where none has a fault, and else the fault of
 //! the first that has one, as `specs/Faults.antt` says it. [`Tree::find`] promises the best path
-//! wherever one matches, and [`Found::fill`] its parameters. The functions of [`laws`] prove that
-//! a path is read as it is written, what each fault means, and that one path is best.
+//! wherever one matches, and [`Found::fill`] its parameters, each with a value. The functions of
+//! [`laws`] prove that a path is read as it is written, what each fault means, that each parameter
+//! of a path that matches has a value, and that one path is best.
 //!
-//! `find` takes no memory and no recursion. The nodes of the tree lie in preorder, named by their
-//! index; a node that doesn't take its segment leads to the one behind all nodes below it. So each
-//! node is looked at once at most, by one comparison of a text: no request costs more than its
-//! segments and the nodes of the tree, and of these only the children of nodes that match count.
+//! How it is built, which nothing here promises: the nodes of the tree lie in preorder, named by
+//! their index, and a node that doesn't take its segment leads to the one behind all nodes below
+//! it, so that `find` goes forward alone, looks at a node once at most and needs no stack.
 #![tactic(auto)]
 
 mod fault;
@@ -55,8 +55,6 @@ mod tree;
 
 pub use fault::TreeFault;
 pub use found::Found;
-pub use part::Part;
+pub use part::{Part, has_parameter};
+pub use reading::read_parts;
 pub use tree::{Hit, Tree};
-
-#[cfg(test)]
-mod tests;

@@ -5,6 +5,7 @@ ghost use Rattle.std.specs.List.{list_any};
 ghost use Rattle.std.specs.Cmp.Lexicographic.{slice_cmp};
 ghost use Rattle.resource_tree.specs.Matching.{rank as rank_of};
 ghost use Rattle.resource_tree.specs.Nodes.{literal_of, part_cmp};
+ghost use Rattle.resource_tree.specs.Parameters.{has_name as has_name_of, has_parameter as has_parameter_of};
 ghost use Rattle.resource_tree.specs.Sharing.{clashes as clashes_of, greedy_last, is_greedy as is_greedy_of, renames as renames_of, same_part as same_part_of};
 
 use gw_base::Text;
@@ -50,6 +51,24 @@ impl Part {
     {
         matches!(self, Part::Greedy(_))
     }
+
+    /// Whether it is a `{name}` or a `{name+}` of this name.
+    fn has_name(&self, name: &str) -> bool
+        ensures { result ≡ has_name_of name.now self.now }
+    {
+        match self {
+            Part::Literal(_) => false,
+            Part::Parameter(other) => other.as_str() == name,
+            Part::Greedy(other) => other.as_str() == name,
+        }
+    }
+}
+
+/// Whether one of the parts is a `{name}` or a `{name+}` of this name.
+pub fn has_parameter(parts: &[Part], name: &str) -> bool
+    ensures { result ≡ has_parameter_of name.now parts.now }
+{
+    parts.iter().any(|part| part.has_name(name))
 }
 
 /// Whether the two are the same part.

@@ -12,8 +12,7 @@ use std::alloc::Global;
 /// The most bytes of a parameter's name.
 const NAME_LIMIT: usize = 64;
 
-/// The parts of a path, wherever a `{name+}` stands among them, or `None` where it is no path. The
-/// time it takes is linear in the length of the path.
+/// The parts of a path, wherever a `{name+}` stands among them, or `None` where it is no path.
 #[tactic(auto, unfolding(crate::specs::Reading::parts_of))]
 pub fn read_parts(alloc: Global, path: &str) -> Result<Option<Vec<Part>>, Memory>
     ensures { IfOk result (λ parts. option_map (λ v. v.items) parts ≡ parts_of path.now) }

@@ -1,8 +1,9 @@
 // The paths of an API, and the best of those that match.
-ghost use Rattle.std.specs.Prelude.{◌≡◌, ◌≢◌, ◌↔◌, ℕ, map, Some, None, IfOk, OnOk, IfErr, IfSome, IsNone, IsSomeAnd, ◌<◌, length};
+ghost use Rattle.std.specs.Prelude.{◌≡◌, ◌≢◌, ◌↔◌, ℕ, map, true, Some, None, IfOk, OnOk, IfErr, IfSome, IsNone, IsSomeAnd, ◌<◌, length};
 ghost use Rattle.resource_tree.specs.Faults.{HasNoFault, IsFirstFault};
 ghost use Rattle.resource_tree.specs.Matching.{IsBest, MatchesNone, path_at};
 ghost use Rattle.resource_tree.specs.Reading.{parts_of};
+ghost use Rattle.resource_tree.specs.Sharing.{greedy_last};
 
 use crate::fault::TreeFault;
 use crate::node::{Node, ends_of, nodes_of};
@@ -41,8 +42,8 @@ pub struct Hit {
 }
 
 impl Tree {
-    /// Builds the tree of the paths. Each path is compared with those before it, so that the time
-    /// it takes grows with the square of their number.
+    /// Builds the tree of the paths. It is built by comparing each path with those before it; the
+    /// time that this takes is not promised.
     ///
     /// # Errors
     ///
@@ -64,8 +65,7 @@ impl Tree {
         Ok(Tree { paths, nodes, ends })
     }
 
-    /// The best of the paths that match the segments, which are decoded. It takes no memory, and
-    /// looks at each node of the tree once at most.
+    /// The best of the paths that match the segments, which are decoded. It takes no memory.
     pub fn find(&self, segments: &[Text]) -> Option<Hit>
         ensures best { IfSome result (λ hit. IsBest self.now segments.now hit.resource) }
         ensures only { (at : ℕ) → IsBest self.now segments.now at → IsSomeAnd result (λ hit. hit.resource ≡ at) }
@@ -85,7 +85,8 @@ impl Tree {
     /// The parts of the path that was found.
     pub(crate) fn path(&self, hit: Hit) -> &[Part]
         requires { hit.resource < length self.now }
-        ensures { result.now ≡ path_at self.now hit.resource }
+        ensures parts { result.now ≡ path_at self.now hit.resource }
+        ensures last { greedy_last result.now ≡ true }
     {
         self.paths[hit.resource as usize].as_slice()
     }

@@ -24,6 +24,3 @@ mod table;
 
 pub use pattern_core::PatternFault;
 pub use table::{StatusTable, anchored};
-
-#[cfg(test)]
-mod tests;

@@ -1,7 +1,7 @@
 use Rattle.std.proofs.Common.{◌≡◌, [], ◌∷◌, Some, None, ◌++◌, sym, ap, ◌∙◌, rules}
 use Rattle.std.specs.Option.{option_map}
 use Rattle.api_mappings.specs.Uris.{outside, pieces_of, then_pieces}
-use Rattle.api_mappings.specs.declared.piece.Piece.TheVariants.{Literal}
+use Rattle.api_parts.specs.declared.uri.Piece.TheVariants.{Literal}
 use Rattle.api_mappings.proofs.Braces.{no_close, closes, shorter, last_piece, goes_on}
 use Rattle.api_mappings.proofs.uri.pieces.Goals as goal
 

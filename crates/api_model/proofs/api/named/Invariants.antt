@@ -1,5 +1,5 @@
 use Rattle.std.proofs.Common.{◌≡◌, drop}
-use Rattle.api_model.specs.Getters.{value_at}
+use Rattle.resource_tree.specs.Parameters.{value_at}
 use Rattle.api_model.proofs.api.named.Given as goal
 
 abbrev pub invariant-loop-pair : goal.invariant-loop-pair

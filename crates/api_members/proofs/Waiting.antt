@@ -1,0 +1,22 @@
+-- What waits for the header of an authorizer.
+use Rattle.std.proofs.Common.{◌≡◌, Bool, true, false, Some, None, sym, ◌∙◌, subst}
+use Rattle.std.specs.Prelude.{MatchResult, Result, if◌then◌else◌}
+use Rattle.api_parts.specs.Places.{fault_below}
+use Rattle.api_parts.specs.Reading.{Text, Waiting, first_of, here}
+use Rattle.api_parts.specs.declared.fault.ApiCause.TheVariants.{BadMapping, Memory}
+use Rattle.api_parts.specs.declared.fault.ApiFault.{ApiFault}
+use Rattle.api_mappings.specs.Names.{is_token}
+use Rattle.api_members.specs.Authorizers.{header_waiting}
+
+-- what waits behind a fault, by whether the header is a token
+abbrev pub Waits : Result Waiting ApiFault → Waiting → Waiting → Type 0
+Waits r before later = MatchResult r (λ w. w ≡ first_of before later) (λ e. e.cause ≡ Memory)
+
+abbrev by_test : Text → Bool → Waiting
+by_test name t = if t then None else Some (fault_below name (here BadMapping))
+
+pub token_waits : (r : Result Waiting ApiFault) (before : Waiting) (name h : Text) (b : Bool) → b ≡ is_token h → b ≡ true → Waits r before None → Waits r before (header_waiting name h)
+token_waits r before name h b is e w = subst (λ t. Waits r before (by_test name t)) (sym (sym is ∙ e)) w
+
+pub other_waits : (r : Result Waiting ApiFault) (before : Waiting) (name h : Text) (b : Bool) → b ≡ is_token h → b ≡ false → Waits r before (Some (fault_below name (here BadMapping))) → Waits r before (header_waiting name h)
+other_waits r before name h b is e w = subst (λ t. Waits r before (by_test name t)) (sym (sym is ∙ e)) w

@@ -1,0 +1,4 @@
+-- the forms of values
+pub mod Values
+-- patterns and templates
+pub mod Texts

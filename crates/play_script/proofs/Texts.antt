@@ -3,7 +3,7 @@ use Rattle.std.proofs.Common.{◌≡◌, ◌⊎◌, inl, inr, ◌∙◌, ℕ, Li
 use Rattle.vtl_grammar.specs.Templates.{read_of}
 use Rattle.vtl_grammar.specs.Tree.{Items}
 use Rattle.vtl_grammar.specs.declared.fault.TemplateFault.{TemplateFault}
-use Rattle.api_members.specs.Texts.{template_by, template_of}
+use Rattle.api_reading.specs.Texts.{template_by, template_of}
 use Rattle.api_model.specs.Definition.{stated, text, text_parts}
 use Rattle.api_model.specs.Document.{Parts, no_parts}
 use Rattle.api_parts.specs.Reading.{Read, ◌>>=◌, under}

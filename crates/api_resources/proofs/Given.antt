@@ -12,7 +12,7 @@ use Rattle.api_reading.specs.Values.{flag_in, object_in, text_in}
 use Rattle.api_reading.proofs.Entries.{bytes_same, last_at, last_push, object_is, text_is}
 use Rattle.api_mappings.specs.Mappings.{parameter_of}
 use Rattle.api_resources.specs.Integrations.{integration_in}
-use Rattle.api_resources.specs.Methods.{inner_member, method_in, method_member, method_of, named_models_in, named_models_member, no_method, no_such, number_among, parameters_in, with_authorizer, with_model, with_validator}
+use Rattle.api_resources.specs.Methods.{inner_member, parameters_member_in, models_member_in, integration_member_in, method_in, method_member, method_of, named_models_in, named_models_member, no_method, no_such, number_among, parameters_in, with_authorizer, with_model, with_validator}
 use Rattle.api_resources.specs.declared.methods.MethodRead.{MethodRead}
 use Rattle.api_resources.specs.declared.methods.NamedRead.{NamedRead}
 
@@ -135,6 +135,7 @@ module _ (document : Tree) where
   module _ (path : Text) where
     inner_step : (m : MethodRead) (seen : List (Text × Tree)) (x : Text) (t : Tree) (h : MethodRead) → bytes_eq x (codes "authorizer") ≡ false → bytes_eq x (codes "validator") ≡ false → GivenBy m seen
         → inner_member document path m x t ≡ Ok h → GivenBy h (seen ++ (x, t) ∷ [])
+    unfolding parameters_member_in models_member_in integration_member_in
     inner_step m seen x t h no_a no_v before e =
         either (GivenBy h (seen ++ (x, t) ∷ [])) (bytes_eq x (codes "parameters")) _ _ h
         (λ same e. let (ps, is, last) = bind_ok (parameters_in path x t) _ h e in

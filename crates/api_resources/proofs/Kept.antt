@@ -27,9 +27,9 @@ use Rattle.api_mappings.specs.Names.{is_dotted, is_name}
 use Rattle.api_mappings.specs.Uris.{uri_of}
 use Rattle.resource_tree.specs.Reading.{before_last}
 use Rattle.jsonpath_core.specs.Reading.{path_of}
-use Rattle.api_resources.specs.Integrations.{inner_row, integration_in, integration_member, integration_of, integration_row, is_verb, kind_of, made, may_have, no_integration, passthrough_in, verb_in, with_backend, with_uri}
+use Rattle.api_resources.specs.Integrations.{inner_row, mappings_row, templates_row, rules_row, integration_in, integration_member, integration_of, integration_row, is_verb, kind_of, made, may_have, no_integration, passthrough_in, verb_in, with_backend, with_uri}
 use Rattle.api_resources.specs.Mapped.{mappings_in, mappings_member, source_of, target_of, with_mapping}
-use Rattle.api_resources.specs.Methods.{inner_member, method_in, method_member, method_of, named_models_in, no_method, number_among, parameters_in, parameters_member, with_authorizer, with_parameter, with_validator}
+use Rattle.api_resources.specs.Methods.{inner_member, parameters_member_in, models_member_in, integration_member_in, method_in, method_member, method_of, named_models_in, no_method, number_among, parameters_in, parameters_member, with_authorizer, with_parameter, with_validator}
 use Rattle.api_resources.specs.Rules.{rules_in}
 use Rattle.api_resources.specs.Taken.{ComesFromPath, HasBackend, IsOfPath, KeepsToPath, ReadsUri}
 use Rattle.api_resources.specs.declared.integrations.IntegrationRead.{IntegrationRead}
@@ -169,6 +169,7 @@ module _ (path : Text) where
   uri_step ps i x u h (Some backend) is all e = subst (λ k. Integrations k []) (ok_same _ h e) (all.0, is)
 
   inner_step : (i : IntegrationRead) (x : Text) (t : Tree) (h : IntegrationRead) → Integrations i [] → inner_row path i x t ≡ Ok h → Integrations h []
+  unfolding mappings_row templates_row rules_row
   inner_step i x t h all e =
       either (Integrations h []) (bytes_eq x (codes "parameters")) _ _ h
       (λ same e. let (ms, is, last) = bind_ok (mappings_in Request path x t) _ h e in
@@ -262,6 +263,7 @@ module _ (path : Text) where
 
   module _ (document : Tree) where
     inner_member_step : (m : MethodRead) (x : Text) (t : Tree) (h : MethodRead) → Methods m [] → inner_member document path m x t ≡ Ok h → Methods h []
+    unfolding parameters_member_in models_member_in integration_member_in
     inner_member_step m x t h all e =
         either (Methods h []) (bytes_eq x (codes "parameters")) _ _ h
         (λ same e. let (ps, is, last) = bind_ok (parameters_in path x t) _ h e in

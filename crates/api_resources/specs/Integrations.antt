@@ -86,12 +86,21 @@ abbrev pub with_uri : Option Tree → IntegrationRead → Text → Text → Opti
 with_uri ps i x u None = Err (here BadUri)
 with_uri ps i x u (Some backend) = Ok (record i { uri = Some (u, backend); waiting = first_of i.waiting (uri_waiting ps x backend.path) })
 
--- mappings, templates, rules and the timeout
+-- mappings, templates, rules and the timeout, with what waits in them
+unfoldable pub mappings_row : Text → IntegrationRead → Text → Tree → Read IntegrationRead
+mappings_row path i x t = mappings_in Request path x t >>= λ ms. Ok (record i { parameters = ms.list; waiting = first_of i.waiting (waiting_below x ms.waiting) })
+
+unfoldable pub templates_row : IntegrationRead → Text → Tree → Read IntegrationRead
+templates_row i x t = templates_in x t >>= λ ts. Ok (record i { templates = ts })
+
+unfoldable pub rules_row : IntegrationRead → Text → Tree → Read IntegrationRead
+rules_row i x t = rules_in x t >>= λ rs. Ok (record i { responses = rs.list; waiting = first_of i.waiting (waiting_below x rs.waiting) })
+
 abbrev pub inner_row : Text → IntegrationRead → Text → Tree → Read IntegrationRead
 inner_row path i x t =
-    if bytes_eq x (codes "parameters") then (mappings_in Request path x t >>= λ ms. Ok (record i { parameters = ms.list; waiting = first_of i.waiting (waiting_below x ms.waiting) }))
-    else if bytes_eq x (codes "templates") then (templates_in x t >>= λ ts. Ok (record i { templates = ts }))
-    else if bytes_eq x (codes "responses") then (rules_in x t >>= λ rs. Ok (record i { responses = rs.list; waiting = first_of i.waiting (waiting_below x rs.waiting) }))
+    if bytes_eq x (codes "parameters") then mappings_row path i x t
+    else if bytes_eq x (codes "templates") then templates_row i x t
+    else if bytes_eq x (codes "responses") then rules_row i x t
     else if bytes_eq x (codes "timeout") then (number_in 50 29000 x t >>= λ n. Ok (record i { timeout = n }))
     else unknown x
 

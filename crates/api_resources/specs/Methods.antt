@@ -61,12 +61,21 @@ named_models_member document ms x t = text_in x t >>= λ name. Ok (with_model ms
 abbrev pub named_models_in : Tree → Text → Tree → Read NamedRead
 named_models_in document name t = object_in name t >>= each (named_models_member document) record { list = []; waiting = None }
 
--- parameters, models and the integration
+-- parameters, models and the integration, each with what waits in it
+unfoldable pub parameters_member_in : Text → MethodRead → Text → Tree → Read MethodRead
+parameters_member_in path m x t = parameters_in path x t >>= λ ps. Ok (record m { parameters = ps.list; waiting = first_of m.waiting (waiting_below x ps.waiting) })
+
+unfoldable pub models_member_in : Tree → MethodRead → Text → Tree → Read MethodRead
+models_member_in document m x t = named_models_in document x t >>= λ ms. Ok (record m { models = ms.list; waiting = first_of m.waiting (waiting_below x ms.waiting) })
+
+unfoldable pub integration_member_in : Text → MethodRead → Text → Tree → Read MethodRead
+integration_member_in path m x t = integration_in path x t >>= λ i. Ok (record m { integration = Some i.0; waiting = first_of m.waiting (waiting_below x i.1) })
+
 abbrev pub inner_member : Tree → Text → MethodRead → Text → Tree → Read MethodRead
 inner_member document path m x t =
-    if bytes_eq x (codes "parameters") then (parameters_in path x t >>= λ ps. Ok (record m { parameters = ps.list; waiting = first_of m.waiting (waiting_below x ps.waiting) }))
-    else if bytes_eq x (codes "models") then (named_models_in document x t >>= λ ms. Ok (record m { models = ms.list; waiting = first_of m.waiting (waiting_below x ms.waiting) }))
-    else if bytes_eq x (codes "integration") then (integration_in path x t >>= λ i. Ok (record m { integration = Some i.0; waiting = first_of m.waiting (waiting_below x i.1) }))
+    if bytes_eq x (codes "parameters") then parameters_member_in path m x t
+    else if bytes_eq x (codes "models") then models_member_in document m x t
+    else if bytes_eq x (codes "integration") then integration_member_in path m x t
     else unknown x
 
 abbrev pub method_member : Tree → Text → MethodRead → Text → Tree → Read MethodRead

@@ -231,6 +231,62 @@ fn with_uri(
     }
 }
 
+#[tactic(auto, unfolding(crate::specs::Integrations::mappings_row))]
+fn add_mappings(
+    alloc: Global,
+    doc: &Doc,
+    path: &str,
+    read: IntegrationRead,
+    name: &str,
+    id: NodeId,
+) -> Result<IntegrationRead, ApiFault>
+    requires { IsPart doc.now id }
+    ensures { Reads (says.mappings_row path.now read name.now (part doc.now id)) result }
+{
+    let mappings = read_mappings(alloc, doc, Side::Request, path, name, id)?;
+    let waiting = waits(alloc, read.waiting, name, mappings.waiting)?;
+    Ok(IntegrationRead {
+        parameters: mappings.list,
+        waiting,
+        ..read
+    })
+}
+
+#[tactic(auto, unfolding(crate::specs::Integrations::templates_row))]
+fn add_templates(
+    alloc: Global,
+    doc: &Doc,
+    read: IntegrationRead,
+    name: &str,
+    id: NodeId,
+) -> Result<IntegrationRead, ApiFault>
+    requires { IsPart doc.now id }
+    ensures { Reads (says.templates_row read name.now (part doc.now id)) result }
+{
+    let templates = read_templates(alloc, doc, name, id)?;
+    Ok(IntegrationRead { templates, ..read })
+}
+
+#[tactic(auto, unfolding(crate::specs::Integrations::rules_row))]
+fn add_rules(
+    alloc: Global,
+    doc: &Doc,
+    read: IntegrationRead,
+    name: &str,
+    id: NodeId,
+) -> Result<IntegrationRead, ApiFault>
+    requires { IsPart doc.now id }
+    ensures { Reads (says.rules_row read name.now (part doc.now id)) result }
+{
+    let rules = read_rules(alloc, doc, name, id)?;
+    let waiting = waits(alloc, read.waiting, name, rules.waiting)?;
+    Ok(IntegrationRead {
+        responses: rules.list,
+        waiting,
+        ..read
+    })
+}
+
 // Mappings, templates, rules and the timeout.
 fn add_inner(
     alloc: Global,
@@ -244,26 +300,13 @@ fn add_inner(
     ensures { Reads (says.inner_row path.now read name.now (part doc.now id)) result }
 {
     if name == "parameters" {
-        let mappings = read_mappings(alloc, doc, Side::Request, path, name, id)?;
-        let waiting = waits(alloc, read.waiting, name, mappings.waiting)?;
-        return Ok(IntegrationRead {
-            parameters: mappings.list,
-            waiting,
-            ..read
-        });
+        return add_mappings(alloc, doc, path, read, name, id);
     }
     if name == "templates" {
-        let templates = read_templates(alloc, doc, name, id)?;
-        return Ok(IntegrationRead { templates, ..read });
+        return add_templates(alloc, doc, read, name, id);
     }
     if name == "responses" {
-        let rules = read_rules(alloc, doc, name, id)?;
-        let waiting = waits(alloc, read.waiting, name, rules.waiting)?;
-        return Ok(IntegrationRead {
-            responses: rules.list,
-            waiting,
-            ..read
-        });
+        return add_rules(alloc, doc, read, name, id);
     }
     if name == "timeout" {
         let timeout = number(alloc, doc, 50, 29_000, name, id)?;

@@ -286,6 +286,68 @@ fn add_member(
     add_inner(alloc, doc, path, read, name, id)
 }
 
+#[tactic(auto, unfolding(crate::specs::Methods::parameters_member_in))]
+fn add_parameters(
+    alloc: Global,
+    doc: &Doc,
+    path: &str,
+    read: MethodRead,
+    name: &str,
+    id: NodeId,
+) -> Result<MethodRead, ApiFault>
+    requires { IsPart doc.now id }
+    ensures { Reads (says.parameters_member_in path.now read name.now (part doc.now id)) result }
+{
+    let parameters = read_parameters(alloc, doc, path, name, id)?;
+    let waiting = waits(alloc, read.waiting, name, parameters.waiting)?;
+    Ok(MethodRead {
+        parameters: parameters.list,
+        waiting,
+        ..read
+    })
+}
+
+#[tactic(auto, unfolding(crate::specs::Methods::models_member_in))]
+fn add_models(
+    alloc: Global,
+    doc: &Doc,
+    read: MethodRead,
+    name: &str,
+    id: NodeId,
+) -> Result<MethodRead, ApiFault>
+    requires { IsPart doc.now id }
+    ensures { Reads (says.models_member_in (root_tree doc.now) read name.now (part doc.now id)) result }
+{
+    let models = read_models(alloc, doc, name, id)?;
+    let waiting = waits(alloc, read.waiting, name, models.waiting)?;
+    Ok(MethodRead {
+        models: models.list,
+        waiting,
+        ..read
+    })
+}
+
+#[tactic(auto, unfolding(crate::specs::Methods::integration_member_in))]
+fn add_integration(
+    alloc: Global,
+    doc: &Doc,
+    path: &str,
+    read: MethodRead,
+    name: &str,
+    id: NodeId,
+) -> Result<MethodRead, ApiFault>
+    requires { IsPart doc.now id }
+    ensures { Reads (says.integration_member_in path.now read name.now (part doc.now id)) result }
+{
+    let (integration, fault) = read_integration(alloc, doc, path, name, id)?;
+    let waiting = waits(alloc, read.waiting, name, fault)?;
+    Ok(MethodRead {
+        integration: Some(integration),
+        waiting,
+        ..read
+    })
+}
+
 // Parameters, models and the integration.
 fn add_inner(
     alloc: Global,
@@ -299,31 +361,13 @@ fn add_inner(
     ensures { Reads (says.inner_member (root_tree doc.now) path.now read name.now (part doc.now id)) result }
 {
     if name == "parameters" {
-        let parameters = read_parameters(alloc, doc, path, name, id)?;
-        let waiting = waits(alloc, read.waiting, name, parameters.waiting)?;
-        return Ok(MethodRead {
-            parameters: parameters.list,
-            waiting,
-            ..read
-        });
+        return add_parameters(alloc, doc, path, read, name, id);
     }
     if name == "models" {
-        let models = read_models(alloc, doc, name, id)?;
-        let waiting = waits(alloc, read.waiting, name, models.waiting)?;
-        return Ok(MethodRead {
-            models: models.list,
-            waiting,
-            ..read
-        });
+        return add_models(alloc, doc, read, name, id);
     }
     if name == "integration" {
-        let (integration, fault) = read_integration(alloc, doc, path, name, id)?;
-        let waiting = waits(alloc, read.waiting, name, fault)?;
-        return Ok(MethodRead {
-            integration: Some(integration),
-            waiting,
-            ..read
-        });
+        return add_integration(alloc, doc, path, read, name, id);
     }
     Err(unknown_member(alloc, name))
 }

@@ -7,7 +7,7 @@ use Rattle.std.specs.List.{list_all}
 use Rattle.std.specs.Option.{option_map}
 use Rattle.vtl_texts.proofs.Cuts.{cut_splits}
 use Rattle.vtl_texts.specs.Places.{behind, cut, earliest}
-use Rattle.api_mappings.specs.Names.{is_digit}
+use Rattle.gw_base.specs.Names.{is_digit}
 use Rattle.api_mappings.specs.Uris.{outside, inside, braced, then_pieces, literals, literal_of, is_port_piece}
 use Rattle.api_parts.specs.declared.uri.Piece.{Piece}
 use Rattle.api_parts.specs.declared.uri.Piece.TheVariants.{Literal, Variable, Placeholder}

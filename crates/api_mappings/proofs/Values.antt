@@ -10,7 +10,7 @@ use Rattle.api_parts.specs.declared.uri.Uri.{Uri}
 use Rattle.api_parts.specs.declared.uri.Piece.{Piece}
 use Rattle.api_parts.specs.declared.uri.Piece.TheVariants.{Literal, Variable, Placeholder}
 use Rattle.json_subset.specs.Numbers.{value_from}
-use Rattle.api_mappings.specs.Names.{is_digit}
+use Rattle.gw_base.specs.Names.{is_digit}
 use Rattle.api_mappings.specs.Uris.{can_be_port, has_room, has_room_for, if_possible, is_path_byte, is_path_piece, is_port, is_port_piece, is_variable, literal_of, literals, times, uri_of, uri_pieces}
 use Rattle.api_mappings.specs.Written.{GivesForm, HasNoValues, HasValues, Values, is_path_text, is_port_text, joined, none_given, path_text, piece_text}
 

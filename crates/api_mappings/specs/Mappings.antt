@@ -11,7 +11,8 @@ use Rattle.api_parts.specs.declared.parts.ParameterPlace.{ParameterPlace}
 use Rattle.api_parts.specs.declared.parts.ParameterPlace.TheVariants.{Path, Query, Header}
 use Rattle.api_parts.specs.declared.parts.Origin.{Origin}
 use Rattle.api_parts.specs.declared.parts.Origin.TheVariants as origin
-use Rattle.api_mappings.specs.Names.{is_dotted, is_name, is_own_header, is_path_name, is_token}
+use Rattle.gw_base.specs.Names.{is_name, is_token}
+use Rattle.api_mappings.specs.Names.{is_dotted, is_own_header, is_path_name}
 
 -- a place in a message, and a name there
 abbrev pub Spot : Type 0

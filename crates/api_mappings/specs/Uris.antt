@@ -6,7 +6,8 @@ use Rattle.std.specs.Str.{bytes_eq}
 use Rattle.json_subset.specs.Numbers.{value_from}
 use Rattle.resource_tree.specs.Reading.{before_last}
 use Rattle.vtl_texts.specs.Places.{behind, cut}
-use Rattle.api_mappings.specs.Names.{is_digit, is_name, is_path_name}
+use Rattle.gw_base.specs.Names.{is_digit, is_name}
+use Rattle.api_mappings.specs.Names.{is_path_name}
 use Rattle.api_parts.specs.declared.uri.Host.{Host}
 use Rattle.api_parts.specs.declared.uri.Host.TheVariants.{Loopback, Localhost}
 use Rattle.api_parts.specs.declared.uri.Uri.{Uri}

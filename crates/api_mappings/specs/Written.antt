@@ -4,7 +4,7 @@ use Rattle.std.specs.List.{list_all}
 use Rattle.api_parts.specs.declared.uri.Uri.{Uri}
 use Rattle.api_parts.specs.declared.uri.Piece.{Piece}
 use Rattle.api_parts.specs.declared.uri.Piece.TheVariants.{Literal, Variable, Placeholder}
-use Rattle.api_mappings.specs.Names.{is_digit}
+use Rattle.gw_base.specs.Names.{is_digit}
 use Rattle.api_mappings.specs.Uris.{is_path_byte, is_port, uri_of, uri_pieces}
 
 -- the value of a name, as it is written; some have none

@@ -31,5 +31,4 @@ pub use mappings::{
     gateway_target, has_parameter, parameter, plain_source, request_source, request_target,
     response_source, response_target,
 };
-pub use names::{is_name, is_token};
 pub use uri::{is_plain, read_uri};

@@ -4,10 +4,10 @@ ghost use Rattle.std.specs.Option.{option_map};
 ghost use Rattle.vtl_texts.specs.Places.{behind as behind_of};
 ghost use Rattle.api_mappings.specs.Mappings as says;
 
-use crate::names::{is_dotted, is_name, is_own_header, is_path_name, is_token};
+use crate::names::{is_dotted, is_own_header, is_path_name};
 use crate::texts::{before_last, behind, copy};
 use api_parts::{Origin, ParameterPlace};
-use gw_base::Memory;
+use gw_base::{Memory, is_name, is_token};
 use jsonpath_core::{Path, PathFault};
 use resource_tree::read_parts;
 use std::alloc::Global;

@@ -4,13 +4,13 @@ ghost use Rattle.std.specs.List.{list_all, list_any};
 ghost use Rattle.std.specs.Option.{option_map};
 ghost use Rattle.json_subset.specs.Numbers.{value_from};
 ghost use Rattle.vtl_texts.specs.Places.{cut};
-ghost use Rattle.api_mappings.specs.Names.{is_digit};
+ghost use Rattle.gw_base.specs.Names.{is_digit};
 ghost use Rattle.api_mappings.specs.Uris as says;
 
-use crate::names::{is_name, is_path_name};
+use crate::names::is_path_name;
 use crate::texts::{before_last, behind, copy, split_once};
 use api_parts::{Host, Piece, Uri};
-use gw_base::{Memory, Seq, Text};
+use gw_base::{Memory, Seq, Text, is_name};
 use std::alloc::Global;
 
 // What braces stand for, behind a literal.

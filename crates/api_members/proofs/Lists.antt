@@ -18,7 +18,7 @@ use Rattle.api_parts.proofs.Each.{bind_ok, either, ok_same, each_gathers}
 use Rattle.api_reading.specs.Texts.{pattern_in}
 use Rattle.api_reading.specs.Values.{number_in, object_in, text_in}
 use Rattle.api_reading.proofs.Entries.{object_is}
-use Rattle.api_mappings.specs.Names.{is_name}
+use Rattle.gw_base.specs.Names.{is_name}
 use Rattle.api_members.specs.Authorizers.{IsCompiled, authorizer_in, authorizer_member, authorizer_name, authorizer_of, authorizers_in, authorizers_member, no_authorizer, plain_uri, with_authorizer}
 use Rattle.api_members.specs.Models.{Models, model_in, models_from, models_in, models_member}
 use Rattle.api_members.specs.Validators.{validator_in, validators_in, validators_member}

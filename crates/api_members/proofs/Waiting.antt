@@ -5,7 +5,7 @@ use Rattle.api_parts.specs.Places.{fault_below}
 use Rattle.api_parts.specs.Reading.{Text, Waiting, first_of, here}
 use Rattle.api_parts.specs.declared.fault.ApiCause.TheVariants.{BadMapping, Memory}
 use Rattle.api_parts.specs.declared.fault.ApiFault.{ApiFault}
-use Rattle.api_mappings.specs.Names.{is_token}
+use Rattle.gw_base.specs.Names.{is_token}
 use Rattle.api_members.specs.Authorizers.{header_waiting}
 
 -- what waits behind a fault, by whether the header is a token

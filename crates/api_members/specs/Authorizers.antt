@@ -7,7 +7,7 @@ use Rattle.api_parts.specs.Reading.{Text, Read, ◌>>=◌, each, here, needed, u
 use Rattle.api_parts.specs.Places.{fault_below}
 use Rattle.api_parts.specs.declared.fault.ApiCause.TheVariants.{BadMapping, BadUri}
 use Rattle.api_parts.specs.declared.parts.TokenAuthorizer.{TokenAuthorizer}
-use Rattle.api_mappings.specs.Names.{is_name, is_token}
+use Rattle.gw_base.specs.Names.{is_name, is_token}
 use Rattle.api_mappings.specs.Uris.{is_plain_uri}
 use Rattle.api_reading.specs.Values.{number_in, object_in, text_in}
 use Rattle.api_reading.specs.Texts.{pattern_in}

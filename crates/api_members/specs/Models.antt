@@ -11,7 +11,7 @@ use Rattle.api_parts.specs.Reading.{Text, Read, ◌>>=◌, each, here, bad, unkn
 use Rattle.api_parts.specs.declared.fault.ApiCause.TheVariants.{Model}
 use Rattle.api_parts.specs.declared.fault.ModelFault.{ModelFault}
 use Rattle.api_parts.specs.declared.fault.ModelFault.TheVariants as model
-use Rattle.api_mappings.specs.Names.{is_name}
+use Rattle.gw_base.specs.Names.{is_name}
 use Rattle.api_reading.specs.Values.{object_in}
 
 -- a stands on c

@@ -3,7 +3,7 @@ use Rattle.std.specs.Prelude.{List, [], ◌∷◌, ◌++◌, codes, bytes_eq, if
 use Rattle.json_subset.specs.Tree.{Tree}
 use Rattle.api_parts.specs.Reading.{Text, Read, ◌>>=◌, each, unknown}
 use Rattle.api_parts.specs.declared.parts.Validator.{Validator}
-use Rattle.api_mappings.specs.Names.{is_name}
+use Rattle.gw_base.specs.Names.{is_name}
 use Rattle.api_reading.specs.Values.{flag_in, object_in}
 
 abbrev pub validator_member : Validator → Text → Tree → Read Validator

@@ -4,13 +4,13 @@ ghost use Rattle.json_subset.specs.Documents.{IsPart, part};
 ghost use Rattle.api_parts.specs.Reading.{Reads, first_of};
 ghost use Rattle.api_members.specs.Authorizers as says;
 
-use api_mappings::{is_name, is_plain, is_token};
+use api_mappings::is_plain;
 use api_parts::{ApiCause, ApiFault, Authorizer, TokenAuthorizer, below, no_memory};
 use api_reading::values::{
     copy, fault_here, member_at, missing_member, number, object, text, unknown_member,
 };
 use api_reading::{bad_mapping, token_pattern, waits};
-use gw_base::{Seq, Text};
+use gw_base::{Seq, Text, is_name, is_token};
 use json_subset::{Doc, NodeId};
 use pattern_core::Pattern;
 use std::alloc::Global;

@@ -6,10 +6,9 @@ ghost use Rattle.schema_draft4.specs.Faults.{FaultNamesPart};
 ghost use Rattle.api_members.specs.Models as says;
 ghost use Rattle.api_members.specs.Causes.{IsCauseOf};
 
-use api_mappings::is_name;
 use api_parts::{ApiCause, ApiFault, ModelFault, below, no_memory};
 use api_reading::values::{bad_member, copy, fault_here, member_at, object, unknown_member};
-use gw_base::{Seq, Text};
+use gw_base::{Seq, Text, is_name};
 use json_subset::{Doc, NodeId};
 use schema_draft4::{Schema, SchemaFault};
 use std::alloc::Global;

@@ -4,10 +4,9 @@ ghost use Rattle.json_subset.specs.Documents.{IsPart, part};
 ghost use Rattle.api_parts.specs.Reading.{Reads};
 ghost use Rattle.api_members.specs.Validators.{validator_in, validator_member, validators_in, validators_member};
 
-use api_mappings::is_name;
 use api_parts::{ApiFault, Validator, below, no_memory};
 use api_reading::values::{copy, flag, member_at, object, unknown_member};
-use gw_base::{Seq, Text};
+use gw_base::{Seq, Text, is_name};
 use json_subset::{Doc, NodeId};
 use std::alloc::Global;
 

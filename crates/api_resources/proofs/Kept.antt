@@ -23,7 +23,8 @@ use Rattle.api_parts.proofs.Each.{bind_ok, either, ok_same, each_gathers}
 use Rattle.api_reading.specs.Texts.{templates_in}
 use Rattle.api_reading.specs.Values.{flag_in, number_in, object_in, text_in}
 use Rattle.api_mappings.specs.Mappings.{Spot, body_by, body_source, from_parameter, has_parameter, if_stands, parameter_of, plain_by, plain_source, quoted, quoted_by, request_by, request_parameter, request_source, spot, stands_in}
-use Rattle.api_mappings.specs.Names.{is_dotted, is_name}
+use Rattle.gw_base.specs.Names.{is_name}
+use Rattle.api_mappings.specs.Names.{is_dotted}
 use Rattle.api_mappings.specs.Uris.{uri_of}
 use Rattle.resource_tree.specs.Reading.{before_last}
 use Rattle.jsonpath_core.specs.Reading.{path_of}

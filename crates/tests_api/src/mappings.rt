@@ -1,9 +1,10 @@
 // Names, targets, sources and uris that are read, and such as are refused, by docs/DEFINITION.md.
 use api_mappings::{
-    gateway_target, has_parameter, is_name, is_plain, is_token, parameter, plain_source, read_uri,
-    request_source, request_target, response_source, response_target,
+    gateway_target, has_parameter, is_plain, parameter, plain_source, read_uri, request_source,
+    request_target, response_source, response_target,
 };
 use api_parts::{Origin, ParameterPlace, Piece, Uri};
+use gw_base::{is_name, is_token};
 use std::alloc::{AllocError, Global};
 use std::process::Abort;
 use std::test::Fail;

@@ -1,7 +1,7 @@
 // The tables, in the order of their keys.
-ghost use Rattle.std.specs.Prelude.{◌≡◌, OnOk, OnErr};
+ghost use Rattle.std.specs.Prelude.{◌≡◌, find, OnOk, OnErr};
 ghost use Rattle.std.specs.Option.{option_copied};
-ghost use Rattle.book_core.specs.Rows.{no_rows, api_row, stage_row, deployment as deployment_of, puts_definition, adds_deployment, puts_stage, put};
+ghost use Rattle.book_core.specs.Rows.{no_rows, is_api, api_row, stage_row, deployment as deployment_of, puts_definition, adds_deployment, puts_stage, put};
 ghost use Rattle.book_core.specs.Tables.{rows_of};
 
 use crate::puts;
@@ -15,6 +15,17 @@ use std::alloc::Global;
 pub struct Tables {
     apis: Vec<ApiRow>,
     stages: Vec<StageRow>,
+}
+
+fn find_api<'a>(rows: &'a [ApiRow], name: &str) -> Option<&'a ApiRow>
+    ensures { option_copied result ≡ find (is_api name.now) rows.now }
+{
+    for row in rows {
+        if row.api.as_str() == name {
+            return Some(row);
+        }
+    }
+    None
 }
 
 impl Tables {
@@ -46,7 +57,7 @@ impl Tables {
     pub fn api(&self, name: &str) -> Option<&ApiRow>
         ensures { option_copied result ≡ api_row (rows_of self.now) name.now }
     {
-        self.apis.iter().find(|row| row.api.as_str() == name)
+        find_api(&self.apis, name)
     }
 
     /// The row of a stage.

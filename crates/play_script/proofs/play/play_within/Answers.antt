@@ -1,4 +1,4 @@
-use Rattle.std.proofs.Common.{◌≡◌, ℕ, List, [], ◌∷◌, Some, None, arith, ◌∙◌, ap, sym, subst}
+use Rattle.std.proofs.Common.{◌≡◌, ℕ, List, [], ◌∷◌, Some, None, refl, arith, ◌∙◌, ap, sym, subst}
 use Rattle.std.proofs.lemmas.Grind.{common_steps}
 use Rattle.play_script.specs.Coding.{lines_of, lines_left}
 use Rattle.play_script.specs.Play.{Turn, IsTurn}
@@ -14,7 +14,7 @@ lines-init g c = record {
   playing = begins c.args.limits (lines_of c.args.script.now) (g.W.Sink.written c.args.output.now) c.in_ok-book.book.history (ap (λ b. b.history) c.in_ok-book.ensures);
   base = ap (λ b. b.base) c.in_ok-book.ensures;
   count = omega arith;
-  later = omega arith;
+  kept = refl;
 }
 
 pub returns-in_err-end-clause-front : goal.returns-in_err-end-clause-front
@@ -43,5 +43,5 @@ lines-preserved g c = record {
       c.say_line.new.book.history c.in_ok-end.field-0 c.in_default.is c.in_ok-end.ensures.said;
   base = c.say_line.ensures.base ∙ c.lines.invariant.base;
   count = grind (arith, common_steps);
-  later = omega (arith, c.say_line.ensures.cause.later, c.lines.invariant.later);
+  kept = c.in_ok-end.ensures.cause.kept ∙ c.lines.invariant.kept;
 }

@@ -9,7 +9,7 @@ invariant-lines g l = record {
   playing : Playing l.fn.limits (lines_of l.script) (g.W.Sink.written l.fn.output) (g.W.Sink.written l.output) l.number l.book.history (lines_of l.rest);
   base : l.book.base ≡ base_of l.fn.limits;
   count : l.number + length l.rest ≤ length l.script + 1;
-  later : g.W.Sink.faults l.fn.output ≤ g.W.Sink.faults l.output;
+  kept : g.W.Sink.faults l.output ≡ g.W.Sink.faults l.fn.output;
 }
 
 abbrev pub decreases-lines : goal.decreases-lines

@@ -29,9 +29,13 @@ abbrev pub shown : Result Rendered Stop → Output
 shown (Ok rendered) = record { text = rendered.text; status = 0 }
 shown (Err stop) = stopped stop
 
--- a template over a request with this body, where it is read
+-- a template over the command's request with this body
+unfoldable pub shown_over : List ℕ → Items → Output
+shown_over body items = shown (text_over (render_request body) (target_of (render_request body).target) render_facts items)
+
+-- the same of a template that is read
 abbrev pub read_over : Result Items TemplateFault → List ℕ → Output
-read_over (Ok items) body = shown (text_over (render_request body) (target_of (render_request body).target) render_facts items)
+read_over (Ok items) body = shown_over body items
 read_over (Err fault) body = refused (printed fault)
 
 -- a template's bytes over a body's, unless either are over their limit

@@ -1,15 +1,13 @@
 // What the command `render` prints of its two files.
-ghost use Rattle.std.specs.Prelude.{◌≡◌, true, Some, Ok, Err, IfOk};
+ghost use Rattle.std.specs.Prelude.{◌≡◌, ◌<◌, true, Some, Ok, Err, IfOk};
 ghost use Rattle.vtl_grammar.specs.Templates.{read_of, tree_of};
 ghost use Rattle.play_script.specs.Play.{is_command_status};
-ghost use Rattle.gateway_cli.specs.Render.{refused as refused_of, stopped as stopped_of, shown as shown_of, read_over as read_over_of, judged as judged_of};
-ghost use Rattle.call_facts.specs.Target.{target_of};
+ghost use Rattle.gateway_cli.specs.Render.{refused as refused_of, stopped as stopped_of, shown as shown_of, shown_over, read_over as read_over_of, judged as judged_of};
 ghost use Rattle.method_flow.specs.Answers.{text_over};
-ghost use Rattle.gateway_cli.specs.Requests.{render_request as render_request_of, render_facts as render_facts_of};
 
 use crate::requests::{render_facts, render_request};
 use crate::shown::{Shown, too_long};
-use call_facts::Target;
+use call_facts::{CallFacts, Request, Target};
 use gw_base::{Bytes, Memory};
 use method_flow::render_text;
 use play_script::join;
@@ -41,16 +39,19 @@ fn tell_stop(alloc: Global, stop: Stop) -> Result<Shown, Memory>
     })
 }
 
-// Renders a template over a request with this body.
-fn render_over(alloc: Global, template: &Template, body: &[u8]) -> Result<Shown, Memory>
-    ensures output { IfOk result (λ shown. shown_of (text_over (render_request_of body.now) (target_of (render_request_of body.now).target) render_facts_of (tree_of template.now))
-        ≡ record { text = shown.text; status = shown.status }) }
+// Renders a template over a request and its call.
+fn render_at(
+    alloc: Global,
+    template: &Template,
+    request: &Request,
+    target: &Target,
+    facts: &CallFacts,
+) -> Result<Shown, Memory>
+    requires { facts.now.at < 4102444800000 }
+    ensures output { IfOk result (λ shown. shown_of (text_over request.now target.now facts.now (tree_of template.now)) ≡ record { text = shown.text; status = shown.status }) }
     ensures known { IfOk result (λ shown. is_command_status shown.status ≡ true) }
 {
-    let request = render_request(alloc, body)?;
-    let target = Target::read(alloc, request.target.as_str())?;
-    let facts = render_facts(alloc)?;
-    match render_text(alloc, template, &request, &target, &facts) {
+    match render_text(alloc, template, request, target, facts) {
         Ok(rendered) => Ok(Shown {
             text: rendered.text,
             status: 0,
@@ -58,6 +59,18 @@ fn render_over(alloc: Global, template: &Template, body: &[u8]) -> Result<Shown,
         Err(Stop::Memory) => Err(Memory),
         Err(stop) => tell_stop(alloc, stop),
     }
+}
+
+// Renders a template over the command's request with this body.
+#[tactic(auto, unfolding(crate::specs::Requests::render_facts, crate::specs::Render::shown_over))]
+fn render_over(alloc: Global, template: &Template, body: &[u8]) -> Result<Shown, Memory>
+    ensures output { IfOk result (λ shown. shown_over body.now (tree_of template.now) ≡ record { text = shown.text; status = shown.status }) }
+    ensures known { IfOk result (λ shown. is_command_status shown.status ≡ true) }
+{
+    let request = render_request(alloc, body)?;
+    let target = Target::read(alloc, request.target.as_str())?;
+    let facts = render_facts(alloc)?;
+    render_at(alloc, template, &request, &target, &facts)
 }
 
 // Reads a template and renders it over a body.

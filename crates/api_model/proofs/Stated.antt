@@ -223,6 +223,7 @@ backend_found d n less = by_option (slice_get (parts_of d).methods n) refl
     no_method [] n less at = omega arith
     no_method (m ∷ ms) zero less at = cc
     no_method (m ∷ ms) (suc n) less at = no_method ms n (omega (arith, less)) at
+
     by_option : (o : Option Method) → slice_get (parts_of d).methods n ≡ o → MatchOption o ⊥ (λ (m : Method). ReadsUri m.integration)
     by_option None at = no_method (parts_of d).methods n less at
     by_option (Some m) at = subst (λ (k : Method). ReadsUri k.integration) (get_or_from_slice_get (parts_of d).methods n m m at) (read_uris d n m less)

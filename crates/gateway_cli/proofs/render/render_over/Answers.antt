@@ -13,7 +13,7 @@ returns-clause-output c =
     let items = tree_of c.args.template.now in
     let asked = c.in_ok-request.request in
     let target_is : c.in_ok-target.target ≡ target_of (render_request c.args.body.now).target =
-        c.in_ok-target.ensures ∙ ap target_of (c.as_str.ensures ∙ ap (λ q. q.target) c.in_ok-request.ensures) in
+    c.in_ok-target.ensures ∙ ap target_of (c.as_str.ensures ∙ ap (λ q. q.target) c.in_ok-request.ensures) in
     let by_facts = subst (λ f. IfOk r (λ s. shown (text_over asked c.in_ok-target.target f items) ≡ record { text = s.text; status = s.status })) c.in_ok-facts.ensures c.render_at.ensures.output in
     let by_target = subst (λ t. IfOk r (λ s. shown (text_over asked t render_facts items) ≡ record { text = s.text; status = s.status })) target_is by_facts in
     subst (λ q. IfOk r (λ s. shown (text_over q (target_of (render_request c.args.body.now).target) render_facts items) ≡ record { text = s.text; status = s.status })) c.in_ok-request.ensures by_target

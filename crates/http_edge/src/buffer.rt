@@ -4,7 +4,7 @@ ghost use Rattle.std.specs.Bool.{MatchBool};
 ghost use Rattle.http_edge.specs.Buffers.{emptied};
 
 use gw_base::Memory;
-use http_framing::{EdgeFault, Held, ROOM};
+use http_framing::{EdgeFault, ROOM, ReadAhead};
 use httparse::spans::{EMPTY_HEADER_SPAN, HeaderSpan};
 use std::alloc::Global;
 use std::marker::Model;
@@ -13,7 +13,7 @@ use std::marker::Model;
 /// serves one connection.
 #[derive(Drop)]
 pub struct Buffer {
-    pub(crate) held: Held,
+    pub(crate) held: ReadAhead,
     pub(crate) room: Vec<HeaderSpan>,
     pub(crate) fault: Option<EdgeFault>,
 }
@@ -32,7 +32,7 @@ impl Buffer {
         ensures { result ≡ record { bytes = []; fault = None } }
     {
         Buffer {
-            held: Held::new(alloc),
+            held: ReadAhead::new(alloc),
             room: Vec::new(alloc),
             fault: None,
         }
@@ -49,7 +49,7 @@ impl Buffer {
     pub(crate) fn stop(&mut self, alloc: Global, fault: EdgeFault)
         ensures { self.new ≡ emptied fault }
     {
-        self.held = Held::new(alloc);
+        self.held = ReadAhead::new(alloc);
         self.room = Vec::new(alloc);
         self.fault = Some(fault);
     }

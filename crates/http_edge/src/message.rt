@@ -13,7 +13,7 @@ use crate::incoming::Incoming;
 use crate::request::{Begun, read_head, with_body};
 use call_facts::Request;
 use gw_base::{Bytes, Source};
-use http_framing::{Body, EdgeFault, Framing, Held, read_chunked, read_known};
+use http_framing::{Body, EdgeFault, Framing, ReadAhead, read_chunked, read_known};
 use httparse::spans::HeaderSpan;
 use std::alloc::Global;
 
@@ -21,7 +21,7 @@ use std::alloc::Global;
 fn read_body<S: Source>(
     alloc: Global,
     source: &mut S,
-    held: &mut Held,
+    held: &mut ReadAhead,
     framing: Framing,
 ) -> Result<Body, EdgeFault>
     ensures body { Over (BodyRead (IsRequestBody framing)) held.old (S.left source.old) held.new (S.left source.new) result }
@@ -73,7 +73,7 @@ fn ended(fault: EdgeFault) -> Result<Incoming, EdgeFault>
 fn message<S: Source>(
     alloc: Global,
     source: &mut S,
-    held: &mut Held,
+    held: &mut ReadAhead,
     room: &mut Vec<HeaderSpan>,
 ) -> Result<Incoming, EdgeFault>
     ensures next { Over Comes held.old (S.left source.old) held.new (S.left source.new) result }

@@ -12,7 +12,7 @@ use crate::reply_head::{ReplyBegun, read_final_head};
 use crate::status::has_none;
 use call_facts::WireReply;
 use gw_base::{Bytes, Source};
-use http_framing::{Body, EdgeFault, Framing, Held, read_chunked, read_known, read_rest};
+use http_framing::{Body, EdgeFault, Framing, ReadAhead, read_chunked, read_known, read_rest};
 use httparse::spans::HeaderSpan;
 use std::alloc::Global;
 
@@ -31,7 +31,7 @@ fn kept(body: Result<Body, EdgeFault>) -> Result<Bytes, EdgeFault>
 fn read_said<S: Source>(
     alloc: Global,
     source: &mut S,
-    held: &mut Held,
+    held: &mut ReadAhead,
     framing: Framing,
 ) -> Result<Bytes, EdgeFault>
     ensures body { Over (ReplyBodyRead false framing) held.old (S.left source.old) held.new (S.left source.new) result }
@@ -65,7 +65,7 @@ fn read_none(alloc: Global, framing: Framing) -> Result<Bytes, EdgeFault>
 fn read_reply_body<S: Source>(
     alloc: Global,
     source: &mut S,
-    held: &mut Held,
+    held: &mut ReadAhead,
     framing: Framing,
     bare: bool,
 ) -> Result<Bytes, EdgeFault>
@@ -86,7 +86,7 @@ fn read_reply_body<S: Source>(
 fn reply<S: Source>(
     alloc: Global,
     source: &mut S,
-    held: &mut Held,
+    held: &mut ReadAhead,
     room: &mut Vec<HeaderSpan>,
     bodiless: bool,
 ) -> Result<WireReply, EdgeFault>

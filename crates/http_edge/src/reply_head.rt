@@ -11,7 +11,7 @@ ghost use Rattle.http_edge.specs.ReplyReads.{FinalRead, IsReplyBegun, ReplyHeadR
 use crate::buffer::make_room;
 use crate::texts::headers;
 use gw_base::{Memory, Seq, Source, Text};
-use http_framing::{EdgeFault, Framing, HEAD_LIMIT, Held, await_reply_head, reply_framing};
+use http_framing::{EdgeFault, Framing, HEAD_LIMIT, ReadAhead, await_reply_head, reply_framing};
 use httparse::spans::{HeaderSpan, ResponseSpans};
 use std::alloc::Global;
 
@@ -61,7 +61,7 @@ fn reply_at(
 // Uses a head that was read.
 fn begin(
     alloc: Global,
-    held: &mut Held,
+    held: &mut ReadAhead,
     spans: &ResponseSpans,
     room: &[HeaderSpan],
     limit: usize,
@@ -81,7 +81,7 @@ fn begin(
 fn read_reply_head<S: Source>(
     alloc: Global,
     source: &mut S,
-    held: &mut Held,
+    held: &mut ReadAhead,
     room: &mut [HeaderSpan],
     limit: usize,
 ) -> Result<ReplyBegun, EdgeFault>
@@ -128,7 +128,7 @@ fn behind(begun: ReplyBegun, len: u64) -> ReplyBegun
 fn read_final_in<S: Source>(
     alloc: Global,
     source: &mut S,
-    held: &mut Held,
+    held: &mut ReadAhead,
     room: &mut [HeaderSpan],
 ) -> Result<ReplyBegun, EdgeFault>
     requires room { 3414 ≤ length room.old }
@@ -157,7 +157,7 @@ fn read_final_in<S: Source>(
 pub fn read_final_head<S: Source>(
     alloc: Global,
     source: &mut S,
-    held: &mut Held,
+    held: &mut ReadAhead,
     room: &mut Vec<HeaderSpan>,
 ) -> Result<ReplyBegun, EdgeFault>
     ensures head { Over FinalRead held.old (S.left source.old) held.new (S.left source.new) result }

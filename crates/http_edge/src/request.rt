@@ -11,7 +11,7 @@ use crate::buffer::make_room;
 use crate::texts::{headers, lossy};
 use call_facts::Request;
 use gw_base::{Bytes, Memory, Source};
-use http_framing::{EdgeFault, Framing, HEAD_LIMIT, Held, await_request_head, framing_of};
+use http_framing::{EdgeFault, Framing, HEAD_LIMIT, ReadAhead, await_request_head, framing_of};
 use httparse::spans::{HeaderSpan, RequestSpans};
 use std::alloc::Global;
 
@@ -46,7 +46,7 @@ fn request_at(
 // Uses a head that was read.
 fn begin(
     alloc: Global,
-    held: &mut Held,
+    held: &mut ReadAhead,
     spans: &RequestSpans,
     room: &[HeaderSpan],
 ) -> Result<Begun, Memory>
@@ -71,7 +71,7 @@ fn begin(
 fn read_head_in<S: Source>(
     alloc: Global,
     source: &mut S,
-    held: &mut Held,
+    held: &mut ReadAhead,
     room: &mut [HeaderSpan],
 ) -> Result<Begun, EdgeFault>
     requires room { 3414 ≤ length room.old }
@@ -96,7 +96,7 @@ fn read_head_in<S: Source>(
 pub fn read_head<S: Source>(
     alloc: Global,
     source: &mut S,
-    held: &mut Held,
+    held: &mut ReadAhead,
     room: &mut Vec<HeaderSpan>,
 ) -> Result<Begun, EdgeFault>
     ensures head { Over HeadRead held.old (S.left source.old) held.new (S.left source.new) result }

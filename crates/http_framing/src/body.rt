@@ -8,7 +8,7 @@ ghost use Rattle.http_framing.specs.Stream.{Over, SameBytes, Takes};
 
 use crate::fault::EdgeFault;
 use crate::fill::{Filled, fill};
-use crate::held::Held;
+use crate::held::ReadAhead;
 use gw_base::{Bytes, Source};
 use std::alloc::Global;
 
@@ -25,7 +25,7 @@ pub enum Body {
 }
 
 // Reads until so many bytes are held.
-fn await_bytes<S: Source>(source: &mut S, held: &mut Held, n: usize) -> Result<(), EdgeFault>
+fn await_bytes<S: Source>(source: &mut S, held: &mut ReadAhead, n: usize) -> Result<(), EdgeFault>
     ensures bytes { BytesAwaited n held.new (S.left source.new) result }
     ensures few { IfErr result (CutBelow (2 ^ 63)) }
     ensures same { result ≢ Err EdgeFault.Memory → SameBytes held.old (S.left source.old) held.new (S.left source.new) }
@@ -49,7 +49,7 @@ fn await_bytes<S: Source>(source: &mut S, held: &mut Held, n: usize) -> Result<(
 fn read_bytes<S: Source>(
     alloc: Global,
     source: &mut S,
-    held: &mut Held,
+    held: &mut ReadAhead,
     n: usize,
 ) -> Result<Bytes, EdgeFault>
     ensures bytes { Over (BytesRead n) held.old (S.left source.old) held.new (S.left source.new) result }
@@ -74,7 +74,7 @@ fn read_bytes<S: Source>(
 pub fn read_known<S: Source>(
     alloc: Global,
     source: &mut S,
-    held: &mut Held,
+    held: &mut ReadAhead,
     n: u64,
 ) -> Result<Body, EdgeFault>
     ensures body { Over (BodyRead (IsKnown n)) held.old (S.left source.old) held.new (S.left source.new) result }
@@ -94,7 +94,7 @@ pub fn read_known<S: Source>(
 }
 
 // Reads until the input ends, or more bytes are held than a body may have.
-fn await_end<S: Source>(source: &mut S, held: &mut Held) -> Result<(), EdgeFault>
+fn await_end<S: Source>(source: &mut S, held: &mut ReadAhead) -> Result<(), EdgeFault>
     ensures rest { RestAwaited held.new (S.left source.new) result }
     ensures same { result ≢ Err EdgeFault.Memory → SameBytes held.old (S.left source.old) held.new (S.left source.new) }
     ensures taken { Takes (S.left source.old) (S.left source.new) }
@@ -117,7 +117,7 @@ fn await_end<S: Source>(source: &mut S, held: &mut Held) -> Result<(), EdgeFault
 pub fn read_rest<S: Source>(
     alloc: Global,
     source: &mut S,
-    held: &mut Held,
+    held: &mut ReadAhead,
 ) -> Result<Bytes, EdgeFault>
     ensures rest { Over RestRead held.old (S.left source.old) held.new (S.left source.new) result }
     ensures few { IfErr result (CutBelow (2 ^ 63)) }

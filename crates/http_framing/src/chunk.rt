@@ -8,7 +8,7 @@ ghost use Rattle.http_framing.specs.Faults.{CutBelow};
 
 use crate::fault::EdgeFault;
 use crate::fill::{Filled, fill, fill_line};
-use crate::held::Held;
+use crate::held::ReadAhead;
 use gw_base::Source;
 use httparse::{Status, parse_chunk_size};
 
@@ -60,7 +60,7 @@ fn behind(bytes: &[u8], n: usize) -> &[u8]
 }
 
 // Reads until a chunk line stands at the front of what is held.
-fn await_line<S: Source>(source: &mut S, held: &mut Held) -> Result<SizeLine, EdgeFault>
+fn await_line<S: Source>(source: &mut S, held: &mut ReadAhead) -> Result<SizeLine, EdgeFault>
     ensures line { LineTaken held.new (S.left source.new) result }
     ensures few { IfErr result (CutBelow (2 ^ 63)) }
     ensures taken { Takes (S.left source.old) (S.left source.new) }
@@ -93,7 +93,7 @@ fn await_line<S: Source>(source: &mut S, held: &mut Held) -> Result<SizeLine, Ed
 }
 
 // Reads until it is seen what stands behind a chunk's data.
-fn await_data<S: Source>(source: &mut S, held: &mut Held, n: usize) -> Result<(), EdgeFault>
+fn await_data<S: Source>(source: &mut S, held: &mut ReadAhead, n: usize) -> Result<(), EdgeFault>
     ensures data { DataTaken n held.new (S.left source.new) result }
     ensures few { IfErr result (CutBelow (2 ^ 63)) }
     ensures taken { Takes (S.left source.old) (S.left source.new) }
@@ -118,7 +118,7 @@ fn await_data<S: Source>(source: &mut S, held: &mut Held, n: usize) -> Result<()
 }
 
 /// Reads a chunk line, and uses it.
-pub fn read_line<S: Source>(source: &mut S, held: &mut Held) -> Result<SizeLine, EdgeFault>
+pub fn read_line<S: Source>(source: &mut S, held: &mut ReadAhead) -> Result<SizeLine, EdgeFault>
     ensures line { Over LineRead held.old (S.left source.old) held.new (S.left source.new) result }
     ensures short { IfOk result (λ s. s.len ≤ 1024) }
     ensures few { IfErr result (CutBelow (2 ^ 63)) }
@@ -139,7 +139,7 @@ pub fn read_line<S: Source>(source: &mut S, held: &mut Held) -> Result<SizeLine,
 /// Reads a chunk's data with the line end behind it, and adds it to the body.
 pub fn read_data<S: Source>(
     source: &mut S,
-    held: &mut Held,
+    held: &mut ReadAhead,
     n: usize,
     body: &mut Vec<u8>,
 ) -> Result<(), EdgeFault>

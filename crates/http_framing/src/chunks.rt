@@ -10,7 +10,7 @@ ghost use Rattle.http_framing.specs.Faults.{CutBelow};
 use crate::body::{BODY_LIMIT, Body};
 use crate::chunk::{read_data, read_line};
 use crate::fault::EdgeFault;
-use crate::held::Held;
+use crate::held::ReadAhead;
 use crate::trailers::read_trailers;
 use gw_base::{Bytes, Source};
 use std::alloc::Global;
@@ -27,7 +27,7 @@ enum Step {
 // Reads a chunk, and adds its data to the body.
 fn read_chunk<S: Source>(
     source: &mut S,
-    held: &mut Held,
+    held: &mut ReadAhead,
     body: &mut Vec<u8>,
 ) -> Result<Step, EdgeFault>
     requires { length body.old.items ≤ 10485760 }
@@ -63,7 +63,7 @@ fn read_chunk<S: Source>(
 pub fn read_chunked<S: Source>(
     alloc: Global,
     source: &mut S,
-    held: &mut Held,
+    held: &mut ReadAhead,
 ) -> Result<Body, EdgeFault>
     ensures body { Over (BodyRead IsChunked) held.old (S.left source.old) held.new (S.left source.new) result }
     ensures few { IfErr result (CutBelow (2 ^ 63 + 2 ^ 40)) }

@@ -4,7 +4,7 @@ ghost use Rattle.std.specs.List.{list_any};
 ghost use Rattle.gw_base.specs.Outside.{Rose};
 ghost use Rattle.http_framing.specs.Stream.{Fills, FillsOn, HasCome, Takes};
 
-use crate::held::Held;
+use crate::held::ReadAhead;
 use gw_base::Source;
 
 // The most bytes that are asked for at a time.
@@ -25,7 +25,7 @@ pub enum Filled {
 
 /// Takes at least one byte more, but at the end.
 #[tactic(auto, using(crate::proofs::Overs::takes_consumed, crate::proofs::Overs::takes_kept))]
-pub fn fill<S: Source>(source: &mut S, held: &mut Held) -> Filled
+pub fn fill<S: Source>(source: &mut S, held: &mut ReadAhead) -> Filled
     ensures bytes { Fills held.old (S.left source.old) held.new (S.left source.new) result }
     ensures taken { Takes (S.left source.old) (S.left source.new) }
     ensures fault { result ≡ Filled.Fault → Rose (S.faults source.old) (S.faults source.new) }
@@ -54,7 +54,7 @@ fn has_line_feed(bytes: &[u8], from: usize) -> bool
 }
 
 /// Reads until a line feed came, or so many bytes are held.
-pub fn fill_line<S: Source>(source: &mut S, held: &mut Held, limit: usize) -> Filled
+pub fn fill_line<S: Source>(source: &mut S, held: &mut ReadAhead, limit: usize) -> Filled
     ensures bytes { FillsOn held.old (S.left source.old) held.new (S.left source.new) result }
 
     // More is answered only where a line ended among the bytes that came, or the limit is reached.

@@ -1,6 +1,6 @@
 //! Where the heads and the bodies of HTTP/1.1 messages end in a stream of bytes (RFC 9112, sections 2 to 7).
 //!
-//! [`Held`] are the bytes that were taken from a source and are not yet used. A call takes more of them as it needs,
+//! A [`ReadAhead`] has the bytes that were taken from a source and are not yet used. A call takes more of them as it needs,
 //! and uses what it read: [`await_request_head`] and [`await_reply_head`] wait for a head, [`framing_of`] and
 //! [`reply_framing`] say what it tells of its body, and [`read_known`], [`read_chunked`] and [`read_rest`] read one.
 //!
@@ -44,8 +44,8 @@ mod chunks;
 mod fault;
 mod fill;
 mod framing;
-mod held;
 pub mod laws;
+mod read_ahead;
 mod reply_head;
 mod request_head;
 mod target;
@@ -55,6 +55,6 @@ pub use body::{Body, read_known, read_rest};
 pub use chunks::read_chunked;
 pub use fault::EdgeFault;
 pub use framing::{Framing, framing_of, reply_framing};
-pub use held::Held;
+pub use read_ahead::ReadAhead;
 pub use reply_head::await_reply_head;
 pub use request_head::{HEAD_LIMIT, ROOM, await_request_head};

@@ -10,7 +10,7 @@ ghost use Rattle.http_framing.specs.Stream.{SameBytes, Takes};
 
 use crate::fault::EdgeFault;
 use crate::fill::{Filled, fill_line};
-use crate::held::Held;
+use crate::held::ReadAhead;
 use gw_base::Source;
 use httparse::Status;
 use httparse::spans::{HeaderSpan, ResponseSpans, parse_response};
@@ -43,7 +43,7 @@ fn read_front(buf: &[u8], room: &mut [HeaderSpan]) -> Front
 /// are. It looks as seldom as [`await_request_head`](crate::await_request_head).
 pub fn await_reply_head<S: Source>(
     source: &mut S,
-    held: &mut Held,
+    held: &mut ReadAhead,
     room: &mut [HeaderSpan],
     limit: usize,
 ) -> Result<ResponseSpans, EdgeFault>

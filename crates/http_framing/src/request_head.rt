@@ -9,7 +9,7 @@ ghost use Rattle.http_framing.specs.Stream.{SameBytes, Takes};
 
 use crate::fault::EdgeFault;
 use crate::fill::{Filled, fill_line};
-use crate::held::Held;
+use crate::held::ReadAhead;
 use crate::target::ends_in_target;
 use gw_base::Source;
 use httparse::Status;
@@ -56,7 +56,7 @@ fn read_front(buf: &[u8], room: &mut [HeaderSpan]) -> Front
 /// at before the first read, and then when a line ended, the limit came, or no more comes.
 pub fn await_request_head<S: Source>(
     source: &mut S,
-    held: &mut Held,
+    held: &mut ReadAhead,
     room: &mut [HeaderSpan],
 ) -> Result<RequestSpans, EdgeFault>
     requires room { 3414 ≤ length room.old }

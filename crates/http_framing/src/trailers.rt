@@ -9,7 +9,7 @@ ghost use Rattle.http_framing.specs.declared.trailers.Spot.TheVariants.{Fresh};
 
 use crate::fault::EdgeFault;
 use crate::fill::{Filled, fill_line};
-use crate::held::Held;
+use crate::held::ReadAhead;
 use gw_base::Source;
 
 // The most bytes of trailers.
@@ -58,7 +58,7 @@ fn trailers_of(bytes: &[u8]) -> Option<usize>
 }
 
 // Reads until trailers stand at the front of what is held.
-fn await_trailers<S: Source>(source: &mut S, held: &mut Held) -> Result<usize, EdgeFault>
+fn await_trailers<S: Source>(source: &mut S, held: &mut ReadAhead) -> Result<usize, EdgeFault>
     ensures trailers { TrailersTaken held.new (S.left source.new) result }
     ensures few { IfErr result (CutBelow (2 ^ 63)) }
     ensures taken { Takes (S.left source.old) (S.left source.new) }
@@ -89,7 +89,7 @@ fn await_trailers<S: Source>(source: &mut S, held: &mut Held) -> Result<usize, E
 }
 
 /// Reads trailers, and uses them.
-pub fn read_trailers<S: Source>(source: &mut S, held: &mut Held) -> Result<(), EdgeFault>
+pub fn read_trailers<S: Source>(source: &mut S, held: &mut ReadAhead) -> Result<(), EdgeFault>
     ensures trailers { Over TrailersRead held.old (S.left source.old) held.new (S.left source.new) result }
     ensures few { IfErr result (CutBelow (2 ^ 63)) }
     ensures taken { Takes (S.left source.old) (S.left source.new) }

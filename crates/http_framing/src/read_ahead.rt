@@ -7,12 +7,12 @@ use std::marker::Model;
 
 /// Bytes in a row, seen as those that are not yet used. Using some of them moves none.
 #[derive(Drop)]
-pub struct Held {
+pub struct ReadAhead {
     bytes: Vec<u8>,
     at: usize,
 }
 
-impl Model for Held {
+impl Model for ReadAhead {
     ghost use Rattle.std.specs.Prelude.{◌≤◌, ℕ, List, length, drop};
 
     ghost Value = { List ℕ };
@@ -35,12 +35,12 @@ fn drop_front(bytes: &mut Vec<u8>, n: usize)
     bytes.truncate(len);
 }
 
-impl Held {
+impl ReadAhead {
     /// No bytes, without memory.
     pub fn new(alloc: Global) -> Self
         ensures { result ≡ [] }
     {
-        Held {
+        ReadAhead {
             bytes: Vec::new(alloc),
             at: 0,
         }

@@ -1,0 +1,6 @@
+-- the seven tables as lists of rows, the keys of their rows, and what a row that is put leaves
+pub mod Lists
+-- where a key stands among rows in order
+pub mod Places
+-- how the names of tables are printed
+pub mod Printed

@@ -1,0 +1,130 @@
+// Rows and lists of rows once more.
+ghost use Rattle.std.specs.Prelude.{◌≡◌, IfOk};
+
+use crate::rows::{ApiRow, DeploymentRow, JoinRow, KeyRow, MetaRow, PlanRow, Row, StageRow};
+use gw_base::Memory;
+use std::alloc::Global;
+
+impl MetaRow {
+    /// The same row once more.
+    pub fn copy(&self, _alloc: Global) -> Result<Self, Memory>
+        ensures { IfOk result (λ other. other ≡ self.now) }
+    {
+        Ok(MetaRow {
+            id: self.id,
+            version: self.version,
+        })
+    }
+}
+
+impl ApiRow {
+    /// The same row once more.
+    pub fn copy(&self, alloc: Global) -> Result<Self, Memory>
+        ensures { IfOk result (λ other. other ≡ self.now) }
+    {
+        Ok(ApiRow {
+            api: self.api.copy(alloc)?,
+            text: self.text,
+            source: self.source.copy(alloc)?,
+        })
+    }
+}
+
+impl DeploymentRow {
+    /// The same row once more.
+    pub fn copy(&self, alloc: Global) -> Result<Self, Memory>
+        ensures { IfOk result (λ other. other ≡ self.now) }
+    {
+        Ok(DeploymentRow {
+            api: self.api.copy(alloc)?,
+            number: self.number,
+            text: self.text,
+            source: self.source.copy(alloc)?,
+        })
+    }
+}
+
+impl StageRow {
+    /// The same row once more.
+    pub fn copy(&self, alloc: Global) -> Result<Self, Memory>
+        ensures { IfOk result (λ other. other ≡ self.now) }
+    {
+        Ok(StageRow {
+            api: self.api.copy(alloc)?,
+            stage: self.stage.copy(alloc)?,
+            deployment: self.deployment,
+            vars: self.vars.copy(alloc)?,
+            canary: self.canary,
+            share: self.share,
+            canary_vars: self.canary_vars.copy(alloc)?,
+        })
+    }
+}
+
+impl KeyRow {
+    /// The same row once more.
+    pub fn copy(&self, alloc: Global) -> Result<Self, Memory>
+        ensures { IfOk result (λ other. other ≡ self.now) }
+    {
+        Ok(KeyRow {
+            key: self.key.copy(alloc)?,
+            value: self.value.copy(alloc)?,
+            enabled: self.enabled,
+        })
+    }
+}
+
+impl PlanRow {
+    /// The same row once more.
+    pub fn copy(&self, alloc: Global) -> Result<Self, Memory>
+        ensures { IfOk result (λ other. other ≡ self.now) }
+    {
+        Ok(PlanRow {
+            plan: self.plan.copy(alloc)?,
+            rate: self.rate,
+            burst: self.burst,
+            tversion: self.tversion,
+            qlimit: self.qlimit,
+            qoffset: self.qoffset,
+            qkind: self.qkind,
+            stages: self.stages.copy(alloc)?,
+        })
+    }
+}
+
+impl JoinRow {
+    /// The same row once more.
+    pub fn copy(&self, alloc: Global) -> Result<Self, Memory>
+        ensures { IfOk result (λ other. other ≡ self.now) }
+    {
+        Ok(JoinRow {
+            plan: self.plan.copy(alloc)?,
+            key: self.key.copy(alloc)?,
+            level: self.level,
+            at: self.at,
+            tversion: self.tversion,
+            pkind: self.pkind,
+            pnumber: self.pnumber,
+            allowance: self.allowance,
+            used: self.used,
+            first: self.first,
+        })
+    }
+}
+
+impl Row {
+    /// The same row once more.
+    pub fn copy(&self, alloc: Global) -> Result<Self, Memory>
+        ensures { IfOk result (λ other. other ≡ self.now) }
+    {
+        Ok(match self {
+            Row::Meta(row) => Row::Meta(row.copy(alloc)?),
+            Row::Api(row) => Row::Api(row.copy(alloc)?),
+            Row::Deployment(row) => Row::Deployment(row.copy(alloc)?),
+            Row::Stage(row) => Row::Stage(row.copy(alloc)?),
+            Row::Key(row) => Row::Key(row.copy(alloc)?),
+            Row::Plan(row) => Row::Plan(row.copy(alloc)?),
+            Row::Join(row) => Row::Join(row.copy(alloc)?),
+        })
+    }
+}

@@ -1,0 +1,11 @@
+//! The rows of the store's tables.
+#![tactic(auto)]
+
+mod copies;
+mod place;
+mod rows;
+mod table;
+
+pub use place::Place;
+pub use rows::{ApiRow, DeploymentRow, JoinRow, KeyRow, MetaRow, PlanRow, Row, StageRow};
+pub use table::Table;

@@ -2,10 +2,12 @@
 #![tactic(auto)]
 
 mod copies;
+mod laws;
 mod place;
 mod rows;
 mod table;
 
+pub use laws::lists_stay_in_order;
 pub use place::Place;
 pub use rows::{ApiRow, DeploymentRow, JoinRow, KeyRow, MetaRow, PlanRow, Row, StageRow};
 pub use table::Table;

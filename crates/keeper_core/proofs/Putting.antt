@@ -1,9 +1,9 @@
 -- What is put at the place of a key, and what stands there.
-use Rattle.std.proofs.Common.{◌≡◌, ℕ, ◌<◌, nat_lt, Bool, true, false, not, List, [], ◌∷◌, ◌++◌, length, cond, Option, Some, None, get_or, set, map, take, drop, is_none, slice_get, refl, sym, ap, ◌∙◌, arith, find}
+use Rattle.std.proofs.Common.{◌≡◌, ℕ, ◌<◌, nat_lt, Bool, true, false, not, List, [], ◌∷◌, ◌++◌, length, cond, Option, Some, None, Result, Ok, Err, OnOk, OnErr, get_or, set, map, take, drop, is_none, slice_get, refl, sym, ap, subst, ◌∙◌, arith, find}
 use Rattle.std.specs.List.{position, position_or_len, insert}
 use Rattle.std.proofs.lemmas.List.{map-set, map-append, take-map, drop-map}
 use Rattle.std.proofs.lemmas.List.Folds.{find_at}
-use Rattle.keeper_core.specs.Lists.{put_by, adjust, insert_before}
+use Rattle.keeper_core.specs.Lists.{Ascends, put_by, adjust, insert_before}
 use Rattle.keeper_core.specs.Places.{IsPlace, IsRowAt, IsGapAt, IsWithin, put_at, row_at}
 use Rattle.keeper_core.specs.declared.place.Place.{Place}
 use Rattle.keeper_core.specs.declared.place.Place.TheVariants.{At, Before}
@@ -39,3 +39,13 @@ pub found_at : {R : Type 0} (has_key has_greater : R → Bool) (rows : List R) (
 found_at has_key has_greater rows (At i) is =
     sym (find_at has_key rows ∙ ap (slice_get rows) (first_place (position_or_len has_key rows) i (nat_lt (position_or_len has_key rows) (length rows)) is.first))
 found_at has_key has_greater rows (Before i) is = sym is.none
+
+-- what a put left, seen through the answer
+pub on_ok_put : {R T E : Type 0} (new put at : List R) (answer : Result T E) → put ≡ at → OnOk answer (new ≡ at) → OnOk answer (new ≡ put)
+on_ok_put new put at (Ok v) same e = e ∙ sym same
+on_ok_put new put at (Err e) same h = tt
+
+pub kept_by : {R T E : Type 0} (behind : R → R → Bool) (old new put : List R) (answer : Result T E) → Ascends behind old → Ascends behind put
+    → OnOk answer (new ≡ put) → OnErr answer (new ≡ old) → Ascends behind new
+kept_by behind old new put (Ok v) before after ok err = subst (Ascends behind) (sym ok) after
+kept_by behind old new put (Err e) before after ok err = subst (Ascends behind) (sym err) before

@@ -1,3 +1,5 @@
+-- what tables hold, and the room that they have
+pub mod Held
 -- the seven tables as lists of rows, the keys of their rows, and what a row that is put leaves
 pub mod Lists
 -- where a key stands among rows in order

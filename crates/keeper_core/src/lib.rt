@@ -4,7 +4,9 @@
 mod copies;
 mod laws;
 mod place;
+mod puts;
 mod rows;
+mod searches;
 mod table;
 
 pub use laws::lists_stay_in_order;

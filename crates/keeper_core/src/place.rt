@@ -40,8 +40,7 @@ pub(crate) fn put_at<T: Drop>(rows: &mut Vec<T>, place: Place, row: T) -> Result
     ensures ok { OnOk result (rows.new.items ≡ put_at_of place row rows.old.items) }
     ensures err { OnErr result (rows.new.items ≡ rows.old.items) }
     ensures succeeds { 1 ≤ vec_capacity rows.old - length rows.old.items → IsOk result }
-    ensures room { OnOk result (vec_capacity rows.old - length rows.old.items ≤ vec_capacity rows.new - length rows.new.items + 1) }
-    ensures kept { OnErr result (vec_capacity rows.old - length rows.old.items ≤ vec_capacity rows.new - length rows.new.items) }
+    ensures room { vec_capacity rows.old - length rows.old.items ≤ vec_capacity rows.new - length rows.new.items + 1 }
 {
     match place {
         Place::At(i) => rows[i] = row,

@@ -128,3 +128,61 @@ impl Row {
         })
     }
 }
+
+/// A row that can be had once more, for what is done alike in every table.
+pub(crate) trait CopyRow: Drop {
+    fn copy_row(&self, alloc: Global) -> Result<Self, Memory>
+        ensures { IfOk result (λ other. other ≡ self.now) };
+}
+
+pub(crate) fn copy_rows<R: CopyRow>(alloc: Global, rows: &[R]) -> Result<Vec<R>, Memory>
+    ensures { IfOk result (λ copied. copied.items ≡ rows.now) }
+{
+    let mut copied = Vec::with_capacity(alloc, rows.len())?;
+    for row in rows {
+        copied.push(row.copy_row(alloc)?)?;
+    }
+    Ok(copied)
+}
+
+impl CopyRow for MetaRow {
+    fn copy_row(&self, alloc: Global) -> Result<Self, Memory> {
+        self.copy(alloc)
+    }
+}
+
+impl CopyRow for ApiRow {
+    fn copy_row(&self, alloc: Global) -> Result<Self, Memory> {
+        self.copy(alloc)
+    }
+}
+
+impl CopyRow for DeploymentRow {
+    fn copy_row(&self, alloc: Global) -> Result<Self, Memory> {
+        self.copy(alloc)
+    }
+}
+
+impl CopyRow for StageRow {
+    fn copy_row(&self, alloc: Global) -> Result<Self, Memory> {
+        self.copy(alloc)
+    }
+}
+
+impl CopyRow for KeyRow {
+    fn copy_row(&self, alloc: Global) -> Result<Self, Memory> {
+        self.copy(alloc)
+    }
+}
+
+impl CopyRow for PlanRow {
+    fn copy_row(&self, alloc: Global) -> Result<Self, Memory> {
+        self.copy(alloc)
+    }
+}
+
+impl CopyRow for JoinRow {
+    fn copy_row(&self, alloc: Global) -> Result<Self, Memory> {
+        self.copy(alloc)
+    }
+}

@@ -8,8 +8,10 @@ mod puts;
 mod rows;
 mod searches;
 mod table;
+mod tables;
 
 pub use laws::lists_stay_in_order;
 pub use place::Place;
 pub use rows::{ApiRow, DeploymentRow, JoinRow, KeyRow, MetaRow, PlanRow, Row, StageRow};
 pub use table::Table;
+pub use tables::Tables;

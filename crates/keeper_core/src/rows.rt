@@ -115,6 +115,7 @@ pub struct JoinRow {
 }
 
 /// A row of any table.
+#[derive(Drop)]
 pub enum Row {
     Meta(MetaRow),
     Api(ApiRow),
@@ -123,21 +124,6 @@ pub enum Row {
     Key(KeyRow),
     Plan(PlanRow),
     Join(JoinRow),
-}
-
-// Written by hand: a derived one is slow to check at rows of so many fields.
-impl Drop for Row {
-    fn drop(self) {
-        match self {
-            Row::Meta(_) => {}
-            Row::Api(_) => {}
-            Row::Deployment(_) => {}
-            Row::Stage(_) => {}
-            Row::Key(_) => {}
-            Row::Plan(_) => {}
-            Row::Join(_) => {}
-        }
-    }
 }
 
 impl Row {

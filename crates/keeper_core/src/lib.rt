@@ -2,6 +2,7 @@
 #![tactic(auto)]
 
 mod copies;
+mod keeper;
 mod laws;
 mod place;
 mod puts;
@@ -10,6 +11,7 @@ mod searches;
 mod table;
 mod tables;
 
+pub use keeper::{KeepFault, Keeper, LoadFault};
 pub use laws::lists_stay_in_order;
 pub use place::Place;
 pub use rows::{ApiRow, DeploymentRow, JoinRow, KeyRow, MetaRow, PlanRow, Row, StageRow};

@@ -8,3 +8,7 @@ pub mod Orders
 pub mod Placing
 -- what is put at the place of a key, and what stands there
 pub mod Putting
+-- a join row that is rewritten
+pub mod Rewriting
+-- room for rows that are staged
+pub mod Rooms

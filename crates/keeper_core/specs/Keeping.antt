@@ -1,13 +1,13 @@
 -- What contracts see of a keeper, and what its calls say.
-use Rattle.std.specs.Prelude.{◌≡◌, ℕ, ◌-◌, ◌≤◌, Bool, true, false, not, ◌&&◌, ◌||◌, List, [], ◌∷◌, ◌++◌, Option, Some, None, Result, Ok, Err, OnOk, OnErr, IfOk, IsErrOf, IsTrue, IfSome, IsSome, if◌then◌else◌}
+use Rattle.std.specs.Prelude.{◌≡◌, ℕ, ◌-◌, ◌≤◌, Bool, true, false, ◌||◌, List, count_by, Option, Some, None, Result, Ok, Err, IfSome, IsSome, if◌then◌else◌}
 use Rattle.std.specs.Option.{option_map}
 use Rattle.gw_base.specs.Feed.{raised, is_listed}
 use Rattle.gw_base.specs.Outside.{Rose}
-use Rattle.keeper_core.specs.Held.{Held}
-use Rattle.keeper_core.specs.Lists.{Lists, join_row, put, put_all}
+use Rattle.keeper_core.specs.Held.{Rooms, room_in, is_in}
+use Rattle.keeper_core.specs.Lists.{Lists, join_row, put_all}
 use Rattle.keeper_core.specs.declared.rows.Row.{Row}
 use Rattle.keeper_core.specs.declared.rows.JoinRow.{JoinRow}
-use Rattle.keeper_core.specs.declared.rows.Row.TheVariants.{Join}
+use Rattle.keeper_core.specs.declared.table.Table.{Table}
 use Rattle.keeper_core.specs.declared.keeper.KeepFault.{KeepFault}
 use Rattle.keeper_core.specs.declared.keeper.KeepFault.TheVariants.{Failed, Memory}
 use Rattle.keeper_core.specs.declared.keeper.LoadFault.{LoadFault}
@@ -96,3 +96,18 @@ with_rows rows tables = option_map (put_all rows) tables
 -- the row of this join's key is there, where the tables are told
 abbrev pub HasJoin : Option Lists → JoinRow → Type 0
 HasJoin tables row = IfSome tables (λ lists. IsSome (join_row lists row.plan row.key))
+
+-- what a keeper in memory tells
+pub record MemFacts : Type 0 where
+  pub lists : Lists
+  pub staged : List Row
+  pub faults : ℕ
+  pub loads : ℕ
+  pub planned : Planned
+
+abbrev pub told_by : MemFacts → KeeperFacts
+told_by facts = record { tables = Some facts.lists; staged = facts.staged; faults = facts.faults; loads = facts.loads; planned = Some facts.planned }
+
+-- each table has room for the rows that are staged for it
+abbrev pub HasRoomFor : List Row → Rooms → Type 0
+HasRoomFor staged rooms = (table : Table) → count_by (is_in table) staged ≤ room_in table rooms

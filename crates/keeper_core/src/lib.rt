@@ -4,6 +4,7 @@
 mod copies;
 mod keeper;
 mod laws;
+mod memory;
 mod place;
 mod puts;
 mod rows;
@@ -13,6 +14,7 @@ mod tables;
 
 pub use keeper::{KeepFault, Keeper, LoadFault};
 pub use laws::lists_stay_in_order;
+pub use memory::MemKeeper;
 pub use place::Place;
 pub use rows::{ApiRow, DeploymentRow, JoinRow, KeyRow, MetaRow, PlanRow, Row, StageRow};
 pub use table::Table;

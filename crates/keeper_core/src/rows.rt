@@ -1,5 +1,6 @@
 // The rows of the tables.
 ghost use Rattle.std.specs.Prelude.{◌≡◌};
+ghost use Rattle.keeper_core.specs.Held.{is_in as is_in_of};
 ghost use Rattle.keeper_core.specs.Lists.{table_of};
 
 use crate::table::Table;
@@ -140,5 +141,12 @@ impl Row {
             Row::Plan(_) => Table::Plans,
             Row::Join(_) => Table::Joins,
         }
+    }
+
+    /// Whether the row stands in this table.
+    pub fn is_in(&self, table: Table) -> bool
+        ensures { result ≡ is_in_of table self.now }
+    {
+        self.table() == table
     }
 }

@@ -1,8 +1,9 @@
 // The tables in memory.
-ghost use Rattle.std.specs.Prelude.{◌≡◌, ◌+◌, ◌-◌, ◌≤◌, length, IfOk, IsOk, OnOk, OnErr, if◌then◌else◌};
+ghost use Rattle.std.specs.Prelude.{◌≡◌, ◌+◌, ◌-◌, ◌≤◌, length, IfOk, IsOk, IsSome, OnOk, OnErr, if◌then◌else◌};
 ghost use Rattle.std.specs.Vec.{vec_capacity};
 ghost use Rattle.keeper_core.specs.Held.{room_in, is_in};
-ghost use Rattle.keeper_core.specs.Lists.{no_rows, put as put_of, rows_in, table_of};
+ghost use Rattle.keeper_core.specs.Lists.{no_rows, join_row, put as put_of, rows_in, table_of};
+ghost use Rattle.keeper_core.specs.declared.rows.Row.TheVariants.{Join as join};
 ghost use Rattle.keeper_core.specs.declared.table.Table.{Table as TableName};
 
 mod finds;
@@ -103,6 +104,15 @@ impl Tables {
             Row::Plan(row) => puts::put_plan(&mut self.plans, row),
             Row::Join(row) => puts::put_join(&mut self.joins, row),
         }
+    }
+
+    /// Puts a join row in the place of the row of its key, without memory.
+    pub fn rewrite(&mut self, row: &JoinRow)
+        requires { IsSome (join_row self.old.lists row.now.plan row.now.key) }
+        ensures lists { self.new.lists ≡ put_of (join row.now) self.old.lists }
+        ensures room { self.new.room ≡ self.old.room }
+    {
+        puts::rewrite_join(&mut self.joins, row);
     }
 
     /// Room for so many rows more in a table. No table loses room, whatever the answer.

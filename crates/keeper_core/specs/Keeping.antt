@@ -1,5 +1,5 @@
 -- What contracts see of a keeper, and what its calls say.
-use Rattle.std.specs.Prelude.{◌≡◌, ℕ, ◌-◌, ◌≤◌, Bool, true, false, ◌||◌, List, count_by, Option, Some, None, Result, Ok, Err, IfSome, IsSome, if◌then◌else◌}
+use Rattle.std.specs.Prelude.{◌≡◌, ℕ, ◌-◌, ◌≤◌, Bool, true, false, not, ◌&&◌, ◌||◌, List, count_by, Option, Some, None, Result, Ok, Err, IfSome, IsSome, if◌then◌else◌}
 use Rattle.std.specs.Option.{option_map}
 use Rattle.gw_base.specs.Feed.{raised, is_listed}
 use Rattle.gw_base.specs.Outside.{Rose}
@@ -111,3 +111,13 @@ told_by facts = record { tables = Some facts.lists; staged = facts.staged; fault
 -- each table has room for the rows that are staged for it
 abbrev pub HasRoomFor : List Row → Rooms → Type 0
 HasRoomFor staged rooms = (table : Table) → count_by (is_in table) staged ≤ room_in table rooms
+
+-- a row is kept by two calls, the second of which is made where the first succeeds. It fails exactly where the number of one of
+-- them is listed. Only the first wants memory, and then no call counts
+pub record KeepsAsPlanned (before : Planned) (failed memory : Bool) (now : Option Planned) : Type 0 where
+  pub fails : failed ≡ (fails_now before || not memory && fails_now (one_more before))
+  pub counts : now ≡ Some (if fails_now before then one_more before else if memory then before else one_more (one_more before))
+
+abbrev pub IsKeptAsPlanned : Option Planned → Bool → Bool → Option Planned → Type 0
+IsKeptAsPlanned None failed memory now = now ≡ None
+IsKeptAsPlanned (Some planned) failed memory now = KeepsAsPlanned planned failed memory now

@@ -2,7 +2,9 @@
 #![tactic(auto)]
 
 mod copies;
+
 mod keeper;
+mod keeping;
 mod laws;
 mod memory;
 mod place;
@@ -12,6 +14,7 @@ mod searches;
 mod table;
 mod tables;
 
+pub use keeping::keep;
 pub use keeper::{KeepFault, Keeper, LoadFault};
 pub use laws::lists_stay_in_order;
 pub use memory::MemKeeper;

@@ -92,9 +92,9 @@ module _ {R : Type 0} (behind : R → R → Bool) where
       found : (xs : List R) (i : ℕ) (d : R) → Ascends behind xs → i < length xs → ord (get_or xs i d) ≡ Equal → position has_key xs ≡ Some i
       found xs i d up inside here =
           let first : position_or_len has_key xs ≡ i = position_or_len_is has_key xs i d (omega arith)
-              (λ k less. is (get_or xs k d) ∙ not_equal_before (get_or xs k d) (get_or xs i d) (ord (get_or xs k d)) refl
-              (orders.onward _ _ (ascends_at xs up k i d less inside)) here)
-              (λ _. is (get_or xs i d) ∙ ap is_eq here) in
+          (λ k less. is (get_or xs k d) ∙ not_equal_before (get_or xs k d) (get_or xs i d) (ord (get_or xs k d)) refl
+          (orders.onward _ _ (ascends_at xs up k i d less inside)) here)
+          (λ _. is (get_or xs i d) ∙ ap is_eq here) in
           let fits : nat_lt i (length xs) ≡ true = grind (arith, nat_tests) in
           ap (λ k. cond (nat_lt k (length xs)) (Some k) None) first ∙ ap (λ b. cond b (Some i) None) fits
 
@@ -126,14 +126,14 @@ module _ {R : Type 0} (behind : R → R → Bool) where
           record {
             inside = inside;
             none = absent xs y (λ k below. is (get_or xs k y)
-            ∙ elim (nat_lt k i) as (λ b. nat_lt k i ≡ b → is_eq (ord (get_or xs k y)) ≡ false) [
-                true ↦ λ e. ap is_eq (parts.0 k y (omega arith) (grind (arith, nat_tests)))
-              | false ↦ λ e. ap is_eq (parts.1 k y (grind (arith, nat_tests)) below)
-              ] refl);
+                ∙ elim (nat_lt k i) as (λ b. nat_lt k i ≡ b → is_eq (ord (get_or xs k y)) ≡ false) [
+                  | true ↦ λ e. ap is_eq (parts.0 k y (omega arith) (grind (arith, nat_tests)))
+                  | false ↦ λ e. ap is_eq (parts.1 k y (grind (arith, nat_tests)) below)
+                ] refl);
             before = λ row. gap_before xs i row inside
-            (position_or_len_is has_greater xs i y inside (λ k less. greater (get_or xs k y) ∙ ap is_gt (parts.0 k y (omega arith) less))
-            (λ below. greater (get_or xs i y) ∙ ap is_gt (parts.1 i y (omega arith) below)))
-            (nat_lt i (length xs)) refl;
+                (position_or_len_is has_greater xs i y inside (λ k less. greater (get_or xs k y) ∙ ap is_gt (parts.0 k y (omega arith) less))
+                (λ below. greater (get_or xs i y) ∙ ap is_gt (parts.1 i y (omega arith) below)))
+                (nat_lt i (length xs)) refl;
           }
 
       all_inserted : (P : R → Type 0) (x : R) (ys : List R) → P x → AllByRecursion P ys → AllByRecursion P (insert_before has_greater x ys)
@@ -147,8 +147,8 @@ module _ {R : Type 0} (behind : R → R → Bool) where
       all_adjusted P x (y ∷ ys) here all =
           let more = all_adjusted P x ys here all.1 in
           elim (has_key y) as (λ b. has_key y ≡ b → AllByRecursion P (cond b (x ∷ ys) (y ∷ adjust has_key (λ old. x) ys))) [
-            true ↦ λ e. (here y all.0 e, all.1)
-          | false ↦ λ e. (all.0, more)
+            | true ↦ λ e. (here y all.0 e, all.1)
+            | false ↦ λ e. (all.0, more)
           ] refl
 
       all_onward : (x y : R) (ys : List R) → ord x ≡ Equal → is_lt (ord y) ≡ false → AllByRecursion (λ other. behind y other ≡ true) ys → AllByRecursion (λ other. behind x other ≡ true) ys
@@ -174,12 +174,12 @@ module _ {R : Type 0} (behind : R → R → Bool) where
           let other : has_key y ≡ false = not_found_front y (has_key y) (find has_key ys) none in
           let more = inserted_ascends x here ys (not_found_rest y (has_key y) (find has_key ys) none) up.1 in
           elim (has_greater y) as (λ b. has_greater y ≡ b → Ascends behind (cond b (x ∷ y ∷ ys) (y ∷ insert_before has_greater x ys))) [
-            true ↦ λ e.
-              let past : ord y ≡ Greater = is_Greater (ord y) (sym (greater y) ∙ e) in
-              ((orders.after x y here past, all_onward x y ys here (ap is_lt past) up.0), up)
-          | false ↦ λ e.
-              let less : ord y ≡ Less = is_Less (ord y) (sym (is y) ∙ other) (sym (greater y) ∙ e) in
-              (all_inserted (λ other. behind y other ≡ true) x ys (orders.before y x here less) up.0, more)
+            | true ↦ λ e.
+                let past : ord y ≡ Greater = is_Greater (ord y) (sym (greater y) ∙ e) in
+                ((orders.after x y here past, all_onward x y ys here (ap is_lt past) up.0), up)
+            | false ↦ λ e.
+                let less : ord y ≡ Less = is_Less (ord y) (sym (is y) ∙ other) (sym (greater y) ∙ e) in
+                (all_inserted (λ other. behind y other ≡ true) x ys (orders.before y x here less) up.0, more)
           ] refl
 
       before_equal : (y z : R) (t : Ordering) → ord y ≡ t → (is_lt t ≡ false → ord z ≡ Greater) → ord z ≡ Equal → ord y ≡ Less
@@ -192,18 +192,20 @@ module _ {R : Type 0} (behind : R → R → Bool) where
       adjusted_ascends x here (y ∷ ys) up =
           let more = adjusted_ascends x here ys up.1 in
           elim (has_key y) as (λ b. has_key y ≡ b → Ascends behind (cond b (x ∷ ys) (y ∷ adjust has_key (λ old. x) ys))) [
-            true ↦ λ e.
-              let same : ord y ≡ Equal = is_Equal (ord y) (sym (is y) ∙ e) in
-              (all_onward x y ys here (ap is_lt same) up.0, up.1)
-          | false ↦ λ e.
-              (all_adjusted (λ other. behind y other ≡ true) x ys (λ z b has.
-              orders.before y x here (before_equal y z (ord y) refl (orders.onward y z b) (is_Equal (ord z) (sym (is z) ∙ has)))) up.0, more)
+            | true ↦ λ e.
+                let same : ord y ≡ Equal = is_Equal (ord y) (sym (is y) ∙ e) in
+                (all_onward x y ys here (ap is_lt same) up.0, up.1)
+            | false ↦ λ e. (
+              all_adjusted (λ other. behind y other ≡ true) x ys (λ z b has.
+                  orders.before y x here (before_equal y z (ord y) refl (orders.onward y z b) (is_Equal (ord z) (sym (is z) ∙ has)))) up.0,
+              more,
+            )
           ] refl
 
       -- a row that is put keeps the order
       pub put_ascends : (x : R) → ord x ≡ Equal → (xs : List R) → Ascends behind xs → Ascends behind (put_by has_key has_greater x xs)
       put_ascends x here xs up =
           elim (find has_key xs) as (λ found. find has_key xs ≡ found → Ascends behind (cond (is_none found) (insert_before has_greater x xs) (adjust has_key (λ old. x) xs))) [
-            None ↦ λ e. inserted_ascends x here xs e up
-          | Some y ↦ λ e. adjusted_ascends x here xs up
+            | None ↦ λ e. inserted_ascends x here xs e up
+            | Some y ↦ λ e. adjusted_ascends x here xs up
           ] refl

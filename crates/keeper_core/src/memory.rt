@@ -99,13 +99,13 @@ fn put_rows(tables: &mut Tables, rows: Vec<Row>)
 }
 
 impl MemKeeper {
-    /// A keeper of these tables, of which no call was made.
-    pub fn new(alloc: Global, tables: Tables, fails: Vec<u32>) -> Self
+    /// A keeper of these tables, of which no call was made. It takes no memory.
+    pub fn new(tables: Tables, fails: Vec<u32>) -> Self
         ensures { result ≡ record { lists = tables.lists; staged = []; faults = 0; loads = 0; planned = record { fails = fails.items; calls = 0 } } }
     {
         MemKeeper {
             tables,
-            staged: Vec::new(alloc),
+            staged: Vec::new(*fails.allocator()),
             fails,
             calls: 0,
             faults: 0,

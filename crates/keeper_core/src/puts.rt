@@ -5,7 +5,10 @@ ghost use Rattle.keeper_core.specs.Lists.{Ascends, put_by, is_meta, is_api, is_d
 
 use crate::place::{Place, put_at};
 use crate::rows::{ApiRow, DeploymentRow, JoinRow, KeyRow, MetaRow, PlanRow, StageRow};
-use crate::searches::{place_of_api, place_of_deployment, place_of_join, place_of_key, place_of_meta, place_of_plan, place_of_stage};
+use crate::searches::{
+    place_of_api, place_of_deployment, place_of_join, place_of_key, place_of_meta, place_of_plan,
+    place_of_stage,
+};
 use gw_base::Memory;
 
 pub(crate) fn put_meta(rows: &mut Vec<MetaRow>, row: MetaRow) -> Result<(), Memory>
@@ -32,7 +35,10 @@ pub(crate) fn put_api(rows: &mut Vec<ApiRow>, row: ApiRow) -> Result<(), Memory>
     put_at(rows, place, row)
 }
 
-pub(crate) fn put_deployment(rows: &mut Vec<DeploymentRow>, row: DeploymentRow) -> Result<(), Memory>
+pub(crate) fn put_deployment(
+    rows: &mut Vec<DeploymentRow>,
+    row: DeploymentRow,
+) -> Result<(), Memory>
     requires { Ascends (λ row. deployment_behind row.api row.number) rows.old.items }
     ensures ok { OnOk result (rows.new.items ≡ put_by (is_deployment row.api row.number) (deployment_behind row.api row.number) row rows.old.items) }
     ensures err { OnErr result (rows.new.items ≡ rows.old.items) }

@@ -31,7 +31,11 @@ pub(crate) fn place_of_stage(rows: &[StageRow], api: &str, stage: &str) -> Place
     requires { Ascends (λ row. stage_behind row.api row.stage) rows.now }
     ensures { IsPlace (is_stage api.now stage.now) (stage_behind api.now stage.now) rows.now result }
 {
-    place_of(rows.binary_search_by(|row| row.api.as_str().cmp(api).then(row.stage.as_str().cmp(stage))))
+    place_of(rows.binary_search_by(|row| row
+        .api
+        .as_str()
+        .cmp(api)
+        .then(row.stage.as_str().cmp(stage))))
 }
 
 pub(crate) fn place_of_key(rows: &[KeyRow], key: &str) -> Place
@@ -52,5 +56,9 @@ pub(crate) fn place_of_join(rows: &[JoinRow], plan: &str, key: &str) -> Place
     requires { Ascends (λ row. join_behind row.plan row.key) rows.now }
     ensures { IsPlace (is_join plan.now key.now) (join_behind plan.now key.now) rows.now result }
 {
-    place_of(rows.binary_search_by(|row| row.plan.as_str().cmp(plan).then(row.key.as_str().cmp(key))))
+    place_of(rows.binary_search_by(|row| row
+        .plan
+        .as_str()
+        .cmp(plan)
+        .then(row.key.as_str().cmp(key))))
 }

@@ -1,60 +1,70 @@
 // What stands in the tables: slices of rows, rows by their keys, and places.
 ghost use Rattle.std.specs.Prelude.{◌≡◌};
 ghost use Rattle.std.specs.Option.{option_copied};
-ghost use Rattle.keeper_core.specs.Lists.{api_row, deployment_row, stage_row, key_row, plan_row, join_row, is_api, is_deployment, is_stage, api_behind, deployment_behind, stage_behind};
+ghost use Rattle.keeper_core.specs.Lists.{api_row, deployment_row, stage_row, key_row, plan_row, join_row, is_api, is_deployment, is_stage, Ascends, meta_behind, api_behind, deployment_behind, stage_behind, key_behind, plan_behind, join_behind};
 ghost use Rattle.keeper_core.specs.Places.{IsPlace, IsPlaceOf};
 
 use super::Tables;
 use crate::place::{Place, row_at};
 use crate::rows::{ApiRow, DeploymentRow, JoinRow, KeyRow, MetaRow, PlanRow, Row, StageRow};
-use crate::searches::{place_of_api, place_of_deployment, place_of_join, place_of_key, place_of_meta, place_of_plan, place_of_stage};
+use crate::searches::{
+    place_of_api, place_of_deployment, place_of_join, place_of_key, place_of_meta, place_of_plan,
+    place_of_stage,
+};
 
 impl Tables {
     /// The rows of the table `meta`, by their numbers.
     pub fn metas(&self) -> &[MetaRow]
-        ensures { result.now ≡ self.now.lists.metas }
+        ensures rows { result.now ≡ self.now.lists.metas }
+        ensures order { Ascends (λ row. meta_behind row.id) result.now }
     {
         self.metas.as_slice()
     }
 
     /// The APIs, by their names.
     pub fn apis(&self) -> &[ApiRow]
-        ensures { result.now ≡ self.now.lists.apis }
+        ensures rows { result.now ≡ self.now.lists.apis }
+        ensures order { Ascends (λ row. api_behind row.api) result.now }
     {
         self.apis.as_slice()
     }
 
     /// The deployments, by their APIs and numbers.
     pub fn deployments(&self) -> &[DeploymentRow]
-        ensures { result.now ≡ self.now.lists.deployments }
+        ensures rows { result.now ≡ self.now.lists.deployments }
+        ensures order { Ascends (λ row. deployment_behind row.api row.number) result.now }
     {
         self.deployments.as_slice()
     }
 
     /// The stages, by their APIs and names.
     pub fn stages(&self) -> &[StageRow]
-        ensures { result.now ≡ self.now.lists.stages }
+        ensures rows { result.now ≡ self.now.lists.stages }
+        ensures order { Ascends (λ row. stage_behind row.api row.stage) result.now }
     {
         self.stages.as_slice()
     }
 
     /// The API keys, by their names.
     pub fn keys(&self) -> &[KeyRow]
-        ensures { result.now ≡ self.now.lists.keys }
+        ensures rows { result.now ≡ self.now.lists.keys }
+        ensures order { Ascends (λ row. key_behind row.key) result.now }
     {
         self.keys.as_slice()
     }
 
     /// The usage plans, by their names.
     pub fn plans(&self) -> &[PlanRow]
-        ensures { result.now ≡ self.now.lists.plans }
+        ensures rows { result.now ≡ self.now.lists.plans }
+        ensures order { Ascends (λ row. plan_behind row.plan) result.now }
     {
         self.plans.as_slice()
     }
 
     /// The joins, by their plans and keys.
     pub fn joins(&self) -> &[JoinRow]
-        ensures { result.now ≡ self.now.lists.joins }
+        ensures rows { result.now ≡ self.now.lists.joins }
+        ensures order { Ascends (λ row. join_behind row.plan row.key) result.now }
     {
         self.joins.as_slice()
     }
@@ -70,7 +80,10 @@ impl Tables {
     pub fn deployment(&self, api: &str, number: u64) -> Option<&DeploymentRow>
         ensures { option_copied result ≡ deployment_row self.now.lists api.now number }
     {
-        row_at(&self.deployments, place_of_deployment(&self.deployments, api, number))
+        row_at(
+            &self.deployments,
+            place_of_deployment(&self.deployments, api, number),
+        )
     }
 
     /// The row of a stage of an API.
@@ -108,7 +121,11 @@ impl Tables {
         match row {
             Row::Meta(row) => place_of_meta(&self.metas, row.id),
             Row::Api(row) => place_of_api(&self.apis, row.api.as_str()),
-            Row::Deployment(row) => place_of_deployment(&self.deployments, row.api.as_str(), row.number),
+            Row::Deployment(row) => place_of_deployment(
+                &self.deployments,
+                row.api.as_str(),
+                row.number,
+            ),
             Row::Stage(row) => place_of_stage(&self.stages, row.api.as_str(), row.stage.as_str()),
             Row::Key(row) => place_of_key(&self.keys, row.key.as_str()),
             Row::Plan(row) => place_of_plan(&self.plans, row.plan.as_str()),

@@ -14,6 +14,6 @@ pub returns-in-At-clause-order : goal.returns-in-At-clause-order
 returns-in-At-clause-order c =
     let place : IsRowAt (is_join c.args.row.now.plan c.args.row.now.key) c.args.rows.now.items c.in-At.i = search rules in
     let rows : set c.args.rows.now.items c.in-At.i c.write_use.new.old
-      ≡ put_by (is_join c.args.row.now.plan c.args.row.now.key) (join_behind c.args.row.now.plan c.args.row.now.key) c.args.row.now c.args.rows.now.items =
+    ≡ put_by (is_join c.args.row.now.plan c.args.row.now.key) (join_behind c.args.row.now.plan c.args.row.now.key) c.args.row.now c.args.rows.now.items =
     rewritten c.args.row.now c.index_mut.result.now c.write_use.new.old c.args.rows.now.items c.in-At.i place.first c.index_mut.ensures.value c.write_use.ensures in
     subst (Ascends (λ row. join_behind row.plan row.key)) (sym rows) (join_kept c.args.row.now c.args.rows.now.items c.requires.order)

@@ -9,8 +9,9 @@
 //!
 //! ```text
 //! let mut keeper = MemKeeper::new(Tables::new(alloc), fails);      // fails holds 1
-//! keep(&mut keeper, alloc, &Row::Key(row));                        // Err(Failed): call 0 stages the row, call 1 fails
-//! keep(&mut keeper, alloc, &Row::Key(row))?;                       // calls 2 and 3
+//! let row = Row::Key(KeyRow { key, value, enabled: 1 });
+//! keep(&mut keeper, alloc, &row);                                  // Err(Failed): call 0 stages the row, call 1 fails
+//! keep(&mut keeper, alloc, &row)?;                                 // calls 2 and 3
 //! keeper.tables().key("reader");                                   // the row
 //! ```
 //!

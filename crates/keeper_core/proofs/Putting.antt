@@ -1,10 +1,10 @@
 -- What is put at the place of a key, and what stands there.
-use Rattle.std.proofs.Common.{◌≡◌, ℕ, ◌<◌, nat_lt, Bool, true, false, not, List, [], ◌∷◌, ◌++◌, length, cond, Option, Some, None, Result, Ok, Err, OnOk, OnErr, get_or, set, map, take, drop, is_none, slice_get, refl, sym, ap, subst, ◌∙◌, arith, find}
-use Rattle.std.specs.List.{position, position_or_len, insert}
+use Rattle.std.proofs.Common.{◌≡◌, ℕ, nat_lt, Bool, true, false, List, ◌∷◌, length, cond, Some, None, Result, Ok, Err, OnOk, OnErr, map, take, drop, is_none, slice_get, refl, sym, ap, subst, ◌∙◌, find}
+use Rattle.std.specs.List.{position_or_len}
 use Rattle.std.proofs.lemmas.List.{map-set, map-append, take-map, drop-map}
 use Rattle.std.proofs.lemmas.List.Folds.{find_at}
 use Rattle.keeper_core.specs.Lists.{Ascends, put_by, adjust, insert_before}
-use Rattle.keeper_core.specs.Places.{IsPlace, IsRowAt, IsGapAt, IsWithin, put_at, row_at}
+use Rattle.keeper_core.specs.Places.{IsPlace, IsWithin, put_at, row_at}
 use Rattle.keeper_core.specs.declared.place.Place.{Place}
 use Rattle.keeper_core.specs.declared.place.Place.TheVariants.{At, Before}
 use Rattle.keeper_core.proofs.Placing.{put_there}

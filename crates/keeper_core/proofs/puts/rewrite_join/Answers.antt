@@ -1,4 +1,4 @@
-use Rattle.std.proofs.Common.{◌≡◌, set, get_or, rules, sym, subst}
+use Rattle.std.proofs.Common.{◌≡◌, set, rules, sym, subst}
 use Rattle.keeper_core.specs.Lists.{Ascends, put_by, is_join, join_behind}
 use Rattle.keeper_core.specs.Places.{IsRowAt}
 use Rattle.keeper_core.proofs.Keys.{join_kept}

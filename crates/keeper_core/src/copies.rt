@@ -6,9 +6,9 @@ use gw_base::Memory;
 use std::alloc::Global;
 
 impl MetaRow {
-    /// The same row once more.
+    /// The same row once more, without memory.
     pub fn copy(&self, _alloc: Global) -> Result<Self, Memory>
-        ensures { IfOk result (λ other. other ≡ self.now) }
+        ensures { result ≡ Ok self.now }
     {
         Ok(MetaRow {
             id: self.id,

@@ -1,8 +1,8 @@
 //! The rows of the store, the tables in memory that hold them, and who keeps the tables.
 //!
 //! * [`Row`] is a row of one of the seven tables; each has a key, and [`Table`] names its table.
-//! * [`Tables`] holds the rows in memory, each table in the order of its keys. [`Tables::put`] is the only way in, so rows
-//!   that are put in any order come to stand in that order. Each search costs a logarithm.
+//! * [`Tables`] holds the rows in memory, each table in the order of its keys. [`Tables::put`] is the only way in for a new
+//!   row, so rows that are put in any order come to stand in that order. Each search costs a logarithm.
 //! * [`Place`] says where a key stands in its table, for lists that go beside one.
 //! * [`Keeper`] is who keeps the tables: rows are staged, and a commit keeps all of them at once or none. [`keep`] keeps one.
 //! * [`MemKeeper`] is a keeper in memory. The calls that are named by number fail, and no others.

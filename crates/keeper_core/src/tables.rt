@@ -63,6 +63,7 @@ impl Model for Tables {
 fn reserve_rows<T>(rows: &mut Vec<T>, more: usize) -> Result<(), Memory>
     ensures rows { rows.new.items ≡ rows.old.items }
     ensures ok { OnOk result (more ≤ vec_capacity rows.new - length rows.new.items) }
+    ensures succeeds { more ≤ vec_capacity rows.old - length rows.old.items → IsOk result }
     ensures room { vec_capacity rows.old - length rows.old.items ≤ vec_capacity rows.new - length rows.new.items }
 {
     rows.reserve(more)?;
@@ -115,10 +116,12 @@ impl Tables {
         puts::rewrite_join(&mut self.joins, row);
     }
 
-    /// Room for so many rows more in a table. No table loses room, whatever the answer.
+    /// Makes room for so many rows more in a table. It takes memory only where that room is not there. No table loses
+    /// room, whatever the answer.
     pub fn reserve(&mut self, table: Table, more: usize) -> Result<(), Memory>
         ensures rows { self.new.lists ≡ self.old.lists }
         ensures ok { OnOk result (more ≤ room_in table self.new.room) }
+        ensures succeeds { more ≤ room_in table self.old.room → IsOk result }
         ensures room { (any : TableName) → room_in any self.old.room ≤ room_in any self.new.room }
     {
         match table {

@@ -117,15 +117,15 @@ impl Row {
     pub fn copy(&self, alloc: Global) -> Result<Self, Memory>
         ensures { IfOk result (λ other. other ≡ self.now) }
     {
-        Ok(match self {
-            Row::Meta(row) => Row::Meta(row.copy(alloc)?),
-            Row::Api(row) => Row::Api(row.copy(alloc)?),
-            Row::Deployment(row) => Row::Deployment(row.copy(alloc)?),
-            Row::Stage(row) => Row::Stage(row.copy(alloc)?),
-            Row::Key(row) => Row::Key(row.copy(alloc)?),
-            Row::Plan(row) => Row::Plan(row.copy(alloc)?),
-            Row::Join(row) => Row::Join(row.copy(alloc)?),
-        })
+        match self {
+            Row::Meta(row) => Ok(Row::Meta(row.copy(alloc)?)),
+            Row::Api(row) => Ok(Row::Api(row.copy(alloc)?)),
+            Row::Deployment(row) => Ok(Row::Deployment(row.copy(alloc)?)),
+            Row::Stage(row) => Ok(Row::Stage(row.copy(alloc)?)),
+            Row::Key(row) => Ok(Row::Key(row.copy(alloc)?)),
+            Row::Plan(row) => Ok(Row::Plan(row.copy(alloc)?)),
+            Row::Join(row) => Ok(Row::Join(row.copy(alloc)?)),
+        }
     }
 }
 

@@ -1,7 +1,7 @@
 -- What is found after rows were put.
-use Rattle.std.proofs.Common.{◌≡◌, Bool, true, false, List, [], ◌∷◌, cond, Option, Some, None, find, refl, sym, ap, ◌∙◌}
+use Rattle.std.proofs.Common.{◌≡◌, Bool, true, false, List, [], ◌∷◌, cond, Option, Some, None, is_none, find, refl, sym, ap, ◌∙◌}
 use Rattle.std.specs.Option.{option_map}
-use Rattle.keeper_core.specs.Lists.{adjust, insert_before}
+use Rattle.keeper_core.specs.Lists.{adjust, insert_before, put_by}
 
 adjust_same_step : {X : Type 0} (p : X → Bool) (f : X → X) (y : X) (ys rest : List X) (b : Bool) → p y ≡ b → (b ≡ true → p (f y) ≡ true)
     → find p rest ≡ option_map f (find p ys) → find p (cond b (f y ∷ ys) (y ∷ rest)) ≡ option_map f (cond b (Some y) (find p ys))
@@ -53,3 +53,19 @@ insert_other_step p x y ys rest false other more = ap (λ r. cond (p y) (Some y)
 pub find_beside_inserted : {X : Type 0} (p q : X → Bool) (x : X) → p x ≡ false → (xs : List X) → find p (insert_before q x xs) ≡ find p xs
 find_beside_inserted p q x other [] = ap (λ b. cond b (Some x) None) other
 find_beside_inserted p q x other (y ∷ ys) = insert_other_step p x y ys (insert_before q x ys) (q y) other (find_beside_inserted p q x other ys)
+
+-- the row that was put is found under its key
+pub find_put : {X : Type 0} (p q : X → Bool) (x : X) → p x ≡ true → (xs : List X) → find p (put_by p q x xs) ≡ Some x
+find_put p q x here xs =
+    elim (find p xs) as (λ found. find p xs ≡ found → find p (cond (is_none found) (insert_before q x xs) (adjust p (λ old. x) xs)) ≡ Some x) [
+      | None ↦ λ none. find_inserted p q x here xs none
+      | Some y ↦ λ some. find_adjusted p (λ old. x) (λ y is. here) xs ∙ ap (option_map (λ old. x)) some
+    ] refl
+
+-- a row of another key stays
+pub find_beside_put : {X : Type 0} (p q r : X → Bool) (x : X) → r x ≡ false → ((y : X) → p y ≡ true → r y ≡ false) → (xs : List X) → find r (put_by p q x xs) ≡ find r xs
+find_beside_put p q r x other apart xs =
+    elim (is_none (find p xs)) as (λ none. find r (cond none (insert_before q x xs) (adjust p (λ old. x) xs)) ≡ find r xs) [
+      | true ↦ find_beside_inserted r q x other xs
+      | false ↦ find_beside_adjusted p r (λ old. x) (λ y is. other) apart xs
+    ]

@@ -1,5 +1,5 @@
-pub mod Finding
-pub mod Histories
-pub mod Placing
-pub mod Viewing
-mod Times
+mod Entering
+mod Found
+mod Puts
+mod Starting
+mod Stepping

@@ -1,19 +1,18 @@
 // The book.
-ghost use Rattle.std.specs.Prelude.{◌≡◌, ◌≢◌, [], ◌∷◌, ◌++◌, length, true, false, IfOk, OnOk, OnErr, IfErr, IsErrOf};
-ghost use Rattle.book_core.specs.Commands.{takes_memory};
-ghost use Rattle.book_core.specs.History.{total_size, reply, rows_after, is_full};
-ghost use Rattle.book_core.specs.Rows.{no_rows};
-ghost use Rattle.book_core.specs.Tables.{rows_of};
-ghost use Rattle.book_core.specs.Times.{IsInTime};
+ghost use Rattle.std.specs.Prelude.{◌≡◌, ◌≢◌, [], ◌∷◌, ◌++◌, length, true, false, Some, None, IfOk, OnOk, OnErr, IfErr, IsErrOf, is_some};
+ghost use Rattle.book_rules.specs.Good.{bad_row};
+ghost use Rattle.book_rules.specs.History.{Answers, total_size, state_after, tables_after, is_full};
+ghost use Rattle.book_rules.specs.Machine.{outcome_of, takes_memory};
+ghost use Rattle.book_rules.specs.Times.{IsInTime};
+ghost use Rattle.book_core.specs.Books.{Keeps, counts_of, is_call as is_call_of};
 
 use crate::current::{Current, take};
-use crate::events::{Entry, Event, Limits};
-use crate::replies::Reply;
 use crate::sizes::size;
-use crate::tables::Tables;
-use gw_base::Memory;
+use book_rules::{Entry, Event, Limits, Reply};
+use keeper_core::{Keeper, Tables};
 use std::alloc::Global;
 use std::marker::Model;
+use std::snapshot::Snapshot;
 
 /// Why an event was not taken.
 #[derive(Clone, Copy, Debug, PartialEq, Eq)]
@@ -24,20 +23,24 @@ pub enum StepFault {
     Memory,
 }
 
-/// The tables, and the history that made them of the opening tables. A contract sees what no event changes, and the
-/// history: these fix all the rest.
-pub struct Book {
-    opening: Tables,
-    current: Current,
-    history: Vec<Entry>,
-    bytes: u64,
-    limits: Limits,
+/// The tables over a keeper, and the history that made them of the opening tables. A contract sees the keeper, what no
+/// event changes, and the history: these fix all the rest.
+pub struct Book<K: Keeper> {
+    pub(crate) keeper: K,
+    pub(crate) started: Snapshot<K>,
+    pub(crate) opening: Tables,
+    pub(crate) current: Current,
+    pub(crate) history: Vec<Entry>,
+    pub(crate) bytes: u64,
+    pub(crate) limits: Limits,
 }
 
 // Written by hand, so that a crate that lets a book go sees one call.
-impl Drop for Book {
+impl<K: Keeper + Drop> Drop for Book<K> {
     fn drop(self) {
         let Book {
+            keeper: _,
+            started: _,
             opening: _,
             current: _,
             history: _,
@@ -47,53 +50,72 @@ impl Drop for Book {
     }
 }
 
-impl Model for Book {
-    ghost use Rattle.std.specs.Prelude.{◌≡◌, ◌≤◌, length};
+impl<K: Keeper> Model for Book<K> {
     ghost use Rattle.std.specs.Vec.{vec_capacity};
-    ghost use Rattle.book_core.specs.History.{Session, state_after, total_size};
-    ghost use Rattle.book_core.specs.Tables.{rows_of, standing};
+    ghost use Rattle.book_core.specs.Books.{BookFacts, IsBook};
 
-    ghost Value = { Session };
+    ghost Value = { BookFacts K };
 
-    ghost view = { λ b. record { base = record { opening = rows_of b.opening; limits = b.limits }; history = b.history.items } };
+    ghost view = { λ b. record { keeper = b.keeper; base = record { opening = b.opening.lists; limits = b.limits; start = K.facts b.started.value }; history = b.history.items } };
 
-    ghost invariant = { λ b. record {
-      stands : standing b.current ≡ state_after (rows_of b.opening) b.history.items;
-      bytes : b.bytes ≡ total_size b.history.items;
-      within : b.bytes ≤ b.limits.bytes;
-      entries : length b.history.items ≤ b.limits.entries;
-      room : b.limits.entries ≤ vec_capacity b.history;
-    } };
+    ghost invariant = { λ b. IsBook (record { opening = b.opening.lists; limits = b.limits; start = K.facts b.started.value }) b.history.items (K.facts b.keeper) b.current (vec_capacity b.history) b.bytes };
 }
 
-impl Book {
-    /// A book with empty tables and no entry. Room for the whole history is reserved here.
-    pub fn start(alloc: Global, limits: Limits) -> Result<Self, Memory>
-        ensures { IfOk result (λ book. book ≡ record { base = record { opening = no_rows; limits = limits }; history = [] }) }
-    {
-        Ok(Book {
-            opening: Tables::new(alloc),
-            current: Current {
-                tables: Tables::new(alloc),
-                latest: 0,
-            },
-            history: Vec::with_capacity(alloc, limits.entries as usize)?,
-            bytes: 0,
-            limits,
-        })
-    }
+/// How often a session was called, and how many changes it did not keep.
+#[derive(Clone, Copy, Debug, PartialEq, Eq)]
+pub struct Counts {
+    /// The Enter entries.
+    pub calls: u64,
+    /// The entries that are not kept.
+    pub not_kept: u64,
+}
 
+fn is_call(event: &Event) -> bool
+    ensures { result ≡ is_call_of event.now }
+{
+    match event {
+        Event::Enter { .. } => true,
+        Event::Admin { .. } | Event::Leave { .. } => false,
+    }
+}
+
+fn count_calls(history: &[Entry]) -> u64
+    ensures { result ≡ (counts_of history.now).calls }
+{
+    let mut calls = 0;
+    for entry in history {
+        if is_call(&entry.event) {
+            calls += 1;
+        }
+    }
+    calls
+}
+
+fn count_lost(history: &[Entry]) -> u64
+    ensures { result ≡ (counts_of history.now).not_kept }
+{
+    let mut lost = 0;
+    for entry in history {
+        if !entry.kept {
+            lost += 1;
+        }
+    }
+    lost
+}
+
+impl<K: Keeper> Book<K> {
     /// Takes an event of a seat: answers the reply, and adds one entry to the history.
     pub fn step(&mut self, alloc: Global, seat: u32, event: Event) -> Result<Reply, StepFault>
-        ensures reply { IfOk result (λ r. r ≡ reply self.old.base.opening self.old.history event true) }
+        ensures base { self.new.base ≡ self.old.base }
+
+        // One entry is added, of this seat and event, and the reply is the machine's at its place.
+        ensures taken { IfOk result (λ r. (entry : Entry) × (self.new.history ≡ self.old.history ++ entry ∷ []) × (entry.seat ≡ seat) × (entry.event ≡ event) × Answers self.old.base self.old.history entry r) }
 
         // A request happens before the year 2100, whatever moment it was told.
         ensures time { IfOk result IsInTime }
 
-        ensures ok { OnOk result (self.new ≡ record self.old { history = self.old.history ++ record { seat = seat; event = event; kept = true } ∷ [] }) }
-
-        // A refusal changes nothing.
-        ensures err { OnErr result (self.new ≡ self.old) }
+        // A refusal adds none.
+        ensures err { OnErr result (self.new.history ≡ self.old.history) }
 
         // SessionFull comes exactly where the event would pass a limit, with the history's numbers as they stand.
         ensures room { OnOk result (is_full self.old.base.limits self.old.history event ≡ false) }
@@ -101,7 +123,7 @@ impl Book {
             × (e ≡ StepFault.SessionFull (length self.old.history) (total_size self.old.history))) }
 
         // Memory is wanted only to share a definition, or to write a row.
-        ensures memory { IsErrOf result StepFault.Memory → takes_memory (reply self.old.base.opening self.old.history event true) ≡ true }
+        ensures memory { IsErrOf result StepFault.Memory → takes_memory (outcome_of (state_after self.old.base.opening self.old.history) (length self.old.history) event) ≡ true }
     {
         let size = size(&event);
         let entries = self.history.len() as u32;
@@ -111,7 +133,8 @@ impl Book {
                 bytes: self.bytes,
             });
         }
-        let Ok(reply) = take(&mut self.current, alloc, entries as u64, &event) else {
+        let taken = take(&mut self.current, &mut self.keeper, alloc, entries as u64, &event);
+        let Ok(taken) = taken else {
             return Err(StepFault::Memory);
         };
         self.bytes += size as u64;
@@ -119,10 +142,10 @@ impl Book {
             .push(Entry {
                 seat,
                 event,
-                kept: true,
+                kept: taken.kept,
             })
             .unwrap();
-        Ok(reply)
+        Ok(taken.reply)
     }
 
     /// The entries so far, in order.
@@ -134,23 +157,45 @@ impl Book {
 
     /// The tables as they stand.
     pub fn tables(&self) -> &Tables
-        ensures { rows_of result.now ≡ rows_after self.now.base.opening self.now.history }
+        ensures { result.now.lists ≡ tables_after self.now.base.opening self.now.history }
     {
         &self.current.tables
     }
 
-    /// Gives back the tables and the history, without memory.
-    pub fn close(self) -> (Tables, Vec<Entry>)
-        ensures tables { rows_of result.0 ≡ rows_after self.base.opening self.history }
-        ensures history { result.1.items ≡ self.history }
+    /// The tables as they were loaded.
+    pub fn opening(&self) -> &Tables
+        ensures lists { result.now.lists ≡ self.now.base.opening }
+        ensures good { bad_row self.now.base.opening ≡ None }
+    {
+        &self.opening
+    }
+
+    /// How often the session was called, and how many changes were not kept.
+    pub fn counts(&self) -> Counts
+        ensures { result ≡ counts_of self.now.history }
+    {
+        Counts {
+            calls: count_calls(&self.history),
+            not_kept: count_lost(&self.history),
+        }
+    }
+
+    /// Gives back the keeper, the tables and the history, without memory.
+    pub fn close(self) -> (K, Tables, Vec<Entry>)
+        ensures keeper { result.0 ≡ self.keeper }
+        ensures keeps { Keeps self.base self.history (K.facts result.0) }
+        ensures tables { result.1.lists ≡ tables_after self.base.opening self.history }
+        ensures history { result.2.items ≡ self.history }
     {
         let Book {
+            keeper,
+            started: _,
             opening: _,
             current,
             history,
             bytes: _,
             limits: _,
         } = self;
-        (current.tables, history)
+        (keeper, current.tables, history)
     }
 }

@@ -1,7 +1,6 @@
 // What a variable may be.
 ghost use Rattle.std.specs.Prelude.{◌≡◌};
-ghost use Rattle.std.specs.List.{list_all};
-ghost use Rattle.book_core.specs.Names.{are_variables as are_variables_of, is_variable as is_variable_of};
+ghost use Rattle.book_rules.specs.Names.{are_variables as are_variables_of, is_variable as is_variable_of};
 
 use call_facts::Vars;
 use gw_base::{Text, is_name};
@@ -9,11 +8,12 @@ use gw_base::{Text, is_name};
 /// The most bytes of a variable's value.
 const VALUE_LIMIT: usize = 2048;
 
-#[tactic(auto, unfolding(crate::specs::Names::is_variable))]
+#[tactic(auto, unfolding(book_rules::specs::Names::is_variable))]
 fn is_variable(name: &Text, value: &Text) -> bool
     ensures { result ≡ is_variable_of (record { 0 = name.now; 1 = value.now }) }
 {
-    is_name(name.as_str()) && value.len() <= VALUE_LIMIT
+    let text = value.as_str();
+    is_name(name.as_str()) && text.len() <= VALUE_LIMIT
 }
 
 /// Whether each variable has a name, and a value of at most 2,048 bytes.

@@ -1,9 +1,8 @@
 // What the texts of an event sum up to.
 ghost use Rattle.std.specs.Prelude.{◌≡◌};
-ghost use Rattle.book_core.specs.History.{capped, size as size_of_event, command_size as command_size_of, variables_size as variables_size_of};
+ghost use Rattle.book_rules.specs.History.{capped, size as size_of_event, command_size as command_size_of, variables_size as variables_size_of};
 
-use crate::events::{Command, Event};
-use call_facts::Vars;
+use book_rules::{Command, Event};
 use gw_base::Text;
 
 // The bytes of names and values.
@@ -35,6 +34,7 @@ fn command_size(command: &Command) -> u128
                 api.len() as u128 + stage.len() as u128,
             )
         }
+        Command::Shutdown => 0,
     }
 }
 

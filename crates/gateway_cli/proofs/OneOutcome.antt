@@ -1,7 +1,7 @@
 -- The words, the input and the files come to one outcome, and what is written where the program is cut short is a front of it.
 use Rattle.std.proofs.Common.{◌≡◌, ◌≢◌, ◌⊎◌, inl, inr, ℕ, ◌+◌, Bool, true, false, List, [], ◌∷◌, ◌++◌, Option, Some, None, Result, Ok, Err, refl, sym, ap, ◌∙◌, subst, append_assoc, append-nil}
-use Rattle.book_core.specs.declared.events.Entry.{Entry}
-use Rattle.book_core.specs.declared.events.Limits.{Limits}
+use Rattle.play_book.specs.declared.events.Entry.{Entry}
+use Rattle.play_book.specs.declared.events.Limits.{Limits}
 use Rattle.call_facts.specs.declared.request.WireReply.{WireReply}
 use Rattle.http_edge.proofs.ReplyUnique.{reply_unique}
 use Rattle.http_edge.specs.Replies.{IsReply}

@@ -1,6 +1,6 @@
 -- Scripts over their limit, and within it.
 use Rattle.play_script.proofs.Playing.{nothing_front, says_front}
-use Rattle.book_core.specs.declared.events.Limits.{Limits}
+use Rattle.play_book.specs.declared.events.Limits.{Limits}
 use Rattle.std.proofs.Common.{◌≡◌, ℕ, Bool, ◌<◌, ◌≤◌, ◌++◌, true, false, nat_lt, List, [], length, Option, Result, Ok, Err, IfOk, OnOk, OnErr, refl, sym, ap, subst, arith}
 use Rattle.std.proofs.lemmas.Grind.{common_steps}
 use borrow.Author.Tests.{lt-ltb}

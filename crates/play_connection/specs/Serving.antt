@@ -1,11 +1,11 @@
 -- What one message does to a book.
 use Rattle.std.specs.Prelude.{ℕ, Bool, true, List, [], ◌∷◌, ◌++◌, length, codes, Result, Ok, Err, if◌then◌else◌}
 use Rattle.std.specs.Str.{bytes_eq}
-use Rattle.book_core.specs.History.{Base, is_full, reply, total_size}
-use Rattle.book_core.specs.declared.events.Entry.{Entry}
-use Rattle.book_core.specs.declared.events.Event.{Event}
-use Rattle.book_core.specs.declared.events.Event.TheVariants.{Enter, Leave}
-use Rattle.book_core.specs.declared.events.Limits.{Limits}
+use Rattle.play_book.specs.History.{Base, is_full, reply, total_size}
+use Rattle.play_book.specs.declared.events.Entry.{Entry}
+use Rattle.play_book.specs.declared.events.Event.{Event}
+use Rattle.play_book.specs.declared.events.Event.TheVariants.{Enter, Leave}
+use Rattle.play_book.specs.declared.events.Limits.{Limits}
 use Rattle.call_facts.specs.declared.request.Request.{Request}
 use Rattle.http_edge.specs.Answers.{spelled}
 use Rattle.call_facts.specs.Target.{target_of}

@@ -1,9 +1,9 @@
 // The answer to a message, and its cause.
 ghost use Rattle.std.specs.Prelude.{◌≡◌, ◌≢◌, ◌<◌, [], Some, None, Ok, Err, IfOk};
-ghost use Rattle.book_core.specs.Times.{IsInTime};
+ghost use Rattle.play_book.specs.Times.{IsInTime};
 ghost use Rattle.play_connection.specs.Answering.{facts_of as facts_of_view, made_at, made_by, made_for};
 
-use book_core::{Reply, View};
+use play_book::{Reply, View};
 use call_facts::{CallFacts, Kind, Request, Target};
 use gw_base::{Memory, Text};
 use method_flow::{Made, answer_itself, answer_text};

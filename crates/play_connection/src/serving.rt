@@ -1,7 +1,7 @@
 // What one message does to a book.
 ghost use Rattle.std.specs.Prelude.{◌≡◌, true, Ok, Err, IfOk, MatchResult};
-ghost use Rattle.book_core.specs.History.{reply as reply_of};
-ghost use Rattle.book_core.specs.Times.{IsInTime};
+ghost use Rattle.play_book.specs.History.{reply as reply_of};
+ghost use Rattle.play_book.specs.Times.{IsInTime};
 ghost use Rattle.call_facts.specs.Target.{target_of};
 ghost use Rattle.play_connection.specs.Closing.{closes as closes_of};
 ghost use Rattle.play_connection.specs.Serving.{taken as taken_of, entry_of as entry_of_target, is_head as is_head_of, left as left_of, served as served_of};
@@ -9,7 +9,7 @@ ghost use Rattle.play_connection.specs.Serving.{taken as taken_of, entry_of as e
 use crate::answering::answer_for;
 use crate::closing::closes;
 use crate::ended::SessionFull;
-use book_core::{Book, Event, Reply, StepFault};
+use play_book::{Book, Event, Reply, StepFault};
 use call_facts::{Request, Target};
 use gw_base::{Bytes, Memory};
 use http_edge::spell_answer;

@@ -7,7 +7,7 @@ ghost use Rattle.play_connection.specs.Talks.{Connects, edge_end as edge_end_of,
 use crate::ended::Ended;
 use crate::serving::serve;
 use crate::slice_source::SliceSource;
-use book_core::Book;
+use play_book::Book;
 use call_facts::Request;
 use gw_base::{Bytes, Memory};
 use http_edge::{Buffer, EdgeFault, Incoming, busy_answer, edge_answer, next_message};

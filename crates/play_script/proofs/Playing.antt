@@ -4,8 +4,8 @@ use Rattle.std.specs.Borrow.{Bor}
 use Rattle.std.specs.Io.KnownBytes.{Appends}
 use Rattle.std.proofs.KnownBytes.{Appends-nil, Appends-trans}
 use Rattle.gw_base.specs.Whole.{AppendsFront}
-use Rattle.book_core.specs.declared.events.Entry.{Entry}
-use Rattle.book_core.specs.declared.events.Limits.{Limits}
+use Rattle.play_book.specs.declared.events.Entry.{Entry}
+use Rattle.play_book.specs.declared.events.Limits.{Limits}
 use Rattle.play_script.specs.Coding.{lines_of, lines_left}
 use Rattle.play_script.specs.Play.{Output, Turn, before, IsTurn, IsFront, Plays, PlaysFront, GoesOn, GoesOnInFront, SaysFront, status_at}
 use Rattle.play_script.specs.declared.turns.End.{End}

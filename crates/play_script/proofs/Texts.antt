@@ -9,8 +9,8 @@ use Rattle.api_model.specs.Document.{Parts, no_parts}
 use Rattle.api_parts.specs.Reading.{Read, ◌>>=◌, under}
 use Rattle.api_parts.specs.declared.fault.ApiCause.TheVariants as cause
 use Rattle.api_parts.specs.declared.fault.ApiFault.{ApiFault}
-use Rattle.book_core.specs.declared.events.Entry.{Entry}
-use Rattle.book_core.specs.declared.events.Limits.{Limits}
+use Rattle.play_book.specs.declared.events.Entry.{Entry}
+use Rattle.play_book.specs.declared.events.Limits.{Limits}
 use Rattle.play_script.specs.Play.{put_text, refused}
 use Rattle.play_script.specs.Printed.{refused_line}
 use Rattle.play_script.specs.declared.records.LineFault.{LineFault}

@@ -4,14 +4,14 @@ use Rattle.std.specs.Io.KnownBytes.{Appends}
 use Rattle.vtl_grammar.specs.Templates.{read_of}
 use Rattle.vtl_grammar.specs.Tree.{Items}
 use Rattle.vtl_grammar.specs.declared.fault.TemplateFault.{TemplateFault}
-use Rattle.book_core.specs.Rows.{no_rows}
-use Rattle.book_core.specs.History.{Base, reply}
-use Rattle.book_core.specs.declared.events.Limits.{Limits}
-use Rattle.book_core.specs.declared.events.Command.{Command}
-use Rattle.book_core.specs.declared.events.Command.TheVariants as command
-use Rattle.book_core.specs.declared.events.Event.TheVariants.{Admin}
-use Rattle.book_core.specs.declared.events.Entry.{Entry}
-use Rattle.book_core.specs.declared.replies.Reply.{Reply}
+use Rattle.play_book.specs.Rows.{no_rows}
+use Rattle.play_book.specs.History.{Base, reply}
+use Rattle.play_book.specs.declared.events.Limits.{Limits}
+use Rattle.play_book.specs.declared.events.Command.{Command}
+use Rattle.play_book.specs.declared.events.Command.TheVariants as command
+use Rattle.play_book.specs.declared.events.Event.TheVariants.{Admin}
+use Rattle.play_book.specs.declared.events.Entry.{Entry}
+use Rattle.play_book.specs.declared.replies.Reply.{Reply}
 use Rattle.play_connection.specs.Serving.{taken}
 use Rattle.play_connection.specs.Talks.{Said, Connects}
 use Rattle.play_connection.specs.declared.ended.SessionFull.{SessionFull}

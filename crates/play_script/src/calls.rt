@@ -1,7 +1,7 @@
 // What a record does to the book, and what it prints.
 ghost use Rattle.std.specs.Prelude.{◌≡◌, ◌^◌, ◌<◌, true, Ok, Err, Some, None, IfOk, MatchResult};
-ghost use Rattle.book_core.specs.History.{reply as reply_of};
-ghost use Rattle.book_core.specs.Rows.{no_rows};
+ghost use Rattle.play_book.specs.History.{reply as reply_of};
+ghost use Rattle.play_book.specs.Rows.{no_rows};
 ghost use Rattle.vtl_grammar.specs.Templates.{read_of};
 ghost use Rattle.play_script.specs.Printed.{refused_line as refused_line_of};
 ghost use Rattle.play_script.specs.Play.{commanded as commanded_of, put_text as put_text_of, IsCall, Does, IsTurn};
@@ -15,7 +15,7 @@ use crate::reading::record_in;
 use crate::records::{LineFault, Record};
 use crate::turns::{End, Said};
 use api_model::{Api, ApiCause, ApiFault};
-use book_core::{Book, Command, Event, Reply, StepFault};
+use play_book::{Book, Command, Event, Reply, StepFault};
 use call_facts::Vars;
 use gw_base::{Bytes, Memory, Seq, Shared, Text};
 use play_connection::SessionFull;

@@ -1,13 +1,13 @@
 // The connections of a script: their bytes, and their lines.
 ghost use Rattle.std.specs.Prelude.{◌≡◌, IfOk};
-ghost use Rattle.book_core.specs.Rows.{no_rows};
+ghost use Rattle.play_book.specs.Rows.{no_rows};
 ghost use Rattle.play_script.specs.Calls.{post_target as post_target_of, post_fields as post_fields_of, post_bytes as post_bytes_of, answer_line as answer_line_of, full_lines as full_lines_of, connection_lines as connection_lines_of, end_of as end_of_connection};
 ghost use Rattle.play_script.specs.Play.{IsTalk};
 
 use crate::joining::join;
 use crate::printed::full_line;
 use crate::turns::{End, Said};
-use book_core::Book;
+use play_book::Book;
 use gw_base::{Memory, Text};
 use play_connection::{Ended, SessionFull, connect};
 use record_fields::encode;

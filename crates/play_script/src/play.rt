@@ -2,14 +2,14 @@
 ghost use Rattle.std.specs.Prelude.{◌≡◌, ◌⊎◌, ◌+◌, ◌≤◌, ◌<◌, ◌^◌, ℕ, List, [], true, length, IfOk, IfSome, OnOk, OnErr};
 ghost use Rattle.std.specs.Io.KnownBytes.{Appends};
 ghost use Rattle.gw_base.specs.Outside.{HasWriteCause};
-ghost use Rattle.book_core.specs.Rows.{no_rows};
+ghost use Rattle.play_book.specs.Rows.{no_rows};
 ghost use Rattle.play_script.specs.Coding.{lines_of};
 ghost use Rattle.play_script.specs.Play.{Turn, Output, IsTurn, IsFront, Plays, PlaysFront, status_at, SaysFront, is_command_status};
 
 use crate::calls::play_line;
 use crate::fields::first_line;
 use crate::turns::End;
-use book_core::{Book, Limits};
+use play_book::{Book, Limits};
 use gw_base::{Sink, WriteStop, write_all};
 use std::alloc::Global;
 

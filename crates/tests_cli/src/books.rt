@@ -1,6 +1,6 @@
 // The book itself: a stage keeps each variable once.
 use api_model::Api;
-use book_core::{Book, Command, Event, Limits, Reply};
+use play_book::{Book, Command, Event, Limits, Reply};
 use call_facts::Vars;
 use gw_base::{Memory, Seq, Shared, Text};
 use std::alloc::Global;

@@ -1,6 +1,6 @@
 ghost use Rattle.std.specs.Prelude.{◌<◌};
 
-use book_core::{Book, Event, Limits, Reply, StepFault};
+use play_book::{Book, Event, Limits, Reply, StepFault};
 use call_facts::Kind;
 use gateway_cli::{MemOutside, play_within, run};
 use gw_base::{MemSink, MemSource, Sink, Source, Text};

@@ -1,5 +1,5 @@
 use Rattle.std.proofs.Common.{◌≡◌, ◌≤◌, ◌+◌, ◌-◌, ◌^◌, drop}
-use Rattle.book_core.specs.History.{capped, variables_size}
+use Rattle.book_rules.specs.History.{capped, variables_size}
 use Rattle.book_core.proofs.sizes.variables_size.Given as goal
 
 -- the sum so far and that of what is left are that of all

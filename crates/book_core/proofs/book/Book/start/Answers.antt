@@ -1,12 +1,30 @@
-use Rattle.std.proofs.Common.{rules, sym, ◌∙◌}
-use Rattle.book_core.proofs.Histories.{opened_at}
+use Rattle.std.proofs.Common.{arith, rules, ap, sym, subst, refl, ◌∙◌, ◌≡◌, [], Err, IfSome}
+use Rattle.std.proofs.lemmas.Grind.{common_steps}
+use Rattle.book_rules.specs.History.{Base}
+use Rattle.book_opening.specs.Ready.{AreReady}
+use Rattle.book_core.specs.Starts.{StartFails}
+use Rattle.book_core.proofs.Starting.{by_load, keeps_first, stands_first}
 use Rattle.book_core.proofs.book.Book.start.Goals as goal
 
+pub returns-in-Err-clause-failed : goal.returns-in-Err-clause-failed
+returns-in-Err-clause-failed g c =
+    subst (λ f. StartFails (g.K.Keeper.facts c.args.keeper) f (g.K.Keeper.facts c.load.new.self)) (sym c.fault_of.ensures)
+    (by_load c.in-Err.fault (g.K.Keeper.facts c.args.keeper) (g.K.Keeper.facts c.load.new.self) c.in-Err.ensures.cause c.in-Err.ensures.good_rows c.in-Err.ensures.planned)
+
 pub invariant_of-result : goal.invariant_of-result
-invariant_of-result c = record {
-  stands = opened_at _ _ _ (c.new-2.ensures ∙ sym c.new.ensures) c.in_ok-with_capacity.ensures.items;
-  bytes = search rules;
-  within = search rules;
-  entries = search rules;
-  room = search rules;
-}
+invariant_of-result g c =
+    let base : Base = record { opening = c.in-Ok.tables.lists; limits = c.args.limits; start = g.K.Keeper.facts c.of-started.result.value } in
+    let now = g.K.Keeper.facts c.load.new.self in
+    let lists : c.in-Ok-stand.current.tables.lists ≡ c.in-Ok.tables.lists = ap (λ s. s.lists) c.in-Ok-stand.ensures.stands in
+    record {
+      good = c.in-Ok-open.ensures.good;
+      stands = c.in-Ok-stand.ensures.stands ∙ stands_first base.opening c.in-Ok-stand.history.items c.in-Ok-stand.ensures.empty;
+      ready = subst (λ l. AreReady l c.in-Ok-stand.current.ready) (sym lists) (subst (λ r. AreReady c.in-Ok.tables.lists r) (sym c.in-Ok-stand.ensures.ready) c.in-Ok-open.ensures.ready);
+      keeps = keeps_first base c.in-Ok-stand.history.items now c.in-Ok-stand.ensures.empty (ap g.K.Keeper.facts c.of-started.ensures)
+          (c.in-Ok.ensures.staged ∙ c.requires.nothing_staged)
+          (subst (λ t. IfSome t (λ l. c.in-Ok.tables.lists ≡ l)) (sym c.in-Ok.ensures.tables) c.in-Ok.ensures.loaded);
+      bytes_are = grind (arith, common_steps, c.in-Ok-stand.ensures.empty);
+      within = grind (arith, common_steps);
+      entries = grind (arith, common_steps, c.in-Ok-stand.ensures.empty);
+      reserved = c.in-Ok-stand.ensures.room;
+    }

@@ -1,29 +1,60 @@
-use Rattle.std.proofs.Common.{arith, rules, ap, sym, subst, ◌∙◌, ◌≡◌, [], ◌∷◌, ◌++◌, true}
+use Rattle.std.proofs.Common.{arith, rules, ap, sym, subst, refl, ◌∙◌, ◌≡◌, [], ◌∷◌, ◌++◌, length}
+use Rattle.std.specs.Prelude.{is_some}
 use Rattle.std.proofs.lemmas.Grind.{common_steps}
 use Rattle.std.proofs.lemmas.List.Sums.{sum_by-append}
-use Rattle.book_core.proofs.Histories.{state_after-more}
-use Rattle.book_core.specs.Machine.{after}
-use Rattle.book_core.proofs.Times.{reply_in_time}
-use Rattle.book_core.specs.History.{state_after, size, reply}
-use Rattle.book_core.specs.Times.{IsInTime}
-use Rattle.book_core.specs.Tables.{rows_of}
-use Rattle.book_core.specs.declared.events.Entry.{Entry}
+use Rattle.book_rules.proofs.Histories.{state_after-more}
+use Rattle.book_rules.proofs.Times.{reply_in_time, opens_in_time}
+use Rattle.book_rules.specs.History.{Base, Answers, state_after, size, reply}
+use Rattle.book_rules.specs.Machine.{after, row_of, outcome_of, told}
+use Rattle.book_rules.specs.Times.{IsInTime}
+use Rattle.book_rules.specs.declared.events.Entry.{Entry}
+use Rattle.book_core.specs.Books.{Keeps}
+use Rattle.book_core.specs.Keeps.{Went}
+use Rattle.book_core.specs.Standing.{standing}
+use Rattle.book_core.proofs.Stepping.{keeps_more, answers_at}
 use Rattle.book_core.proofs.book.Book.step.Goals as goal
 
 pub invariant_of-self-2 : goal.invariant_of-self-2
-invariant_of-self-2 c =
-    let entry : Entry = record { seat = c.args.seat; event = c.args.event; kept = true } in
-    let items : c.push.new.self.items ≡ c.self.inside.history.items ++ entry ∷ [] = rw c.unwrap.ensures at c.push.ensures.items in
+invariant_of-self-2 g c =
+    let entry : Entry = record { seat = c.args.seat; event = c.args.event; kept = c.in-Ok.taken.kept } in
+    let base : Base = record { opening = c.self.inside.opening.lists; limits = c.self.inside.limits; start = g.K.Keeper.facts c.self.inside.started.value } in
+    let history = c.self.inside.history.items in
+    let items : c.push.new.self.items ≡ history ++ entry ∷ [] = rw c.unwrap.ensures at c.push.ensures.items in
+    let before = g.K.Keeper.facts c.self.inside.keeper in
+    let now = g.K.Keeper.facts c.take-taken.new.keeper in
+    let went = subst (λ s. Went (row_of s c.args.event) c.in-Ok.taken.kept before now) c.self.invariant.stands c.in-Ok.ensures.keeper in
     record {
-      stands = c.in-Ok.ensures.ok c.args.seat ∙ ap (λ s. after s entry) c.self.invariant.stands
-          ∙ sym (state_after-more (rows_of c.self.inside.opening) c.self.inside.history.items entry) ∙ ap (state_after (rows_of c.self.inside.opening)) (sym items);
-      bytes = rw items (grind (arith, common_steps, sum_by-append (λ (e : Entry). size e.event) c.self.inside.history.items (entry ∷ [])));
+      good = c.self.invariant.good;
+      stands = c.in-Ok.ensures.stands c.args.seat ∙ ap (λ s. after s entry) c.self.invariant.stands
+          ∙ sym (state_after-more base.opening history entry) ∙ ap (state_after base.opening) (sym items);
+      ready = c.in-Ok.ensures.ready;
+      keeps = subst (λ h. Keeps base h now) (sym items) (keeps_more base history entry before now c.self.invariant.keeps went);
+      bytes_are = rw items (grind (arith, common_steps, sum_by-append (λ (e : Entry). size e.event) history (entry ∷ [])));
       within = grind (arith, common_steps);
       entries = grind (arith, common_steps);
-      room = grind (arith, common_steps);
+      reserved = grind (arith, common_steps);
     }
 
+pub returns-clause-taken : goal.returns-clause-taken
+returns-clause-taken g c =
+    let entry : Entry = record { seat = c.args.seat; event = c.args.event; kept = c.in-Ok.taken.kept } in
+    let base : Base = record { opening = c.self.inside.opening.lists; limits = c.self.inside.limits; start = g.K.Keeper.facts c.self.inside.started.value } in
+    let history = c.self.inside.history.items in
+    let items : c.push.new.self.items ≡ history ++ entry ∷ [] = rw c.unwrap.ensures at c.push.ensures.items in
+    let before = g.K.Keeper.facts c.self.inside.keeper in
+    let now = g.K.Keeper.facts c.take-taken.new.keeper in
+    let went = subst (λ s. Went (row_of s c.args.event) c.in-Ok.taken.kept before now) c.self.invariant.stands c.in-Ok.ensures.keeper in
+    let answer : c.in-Ok.taken.reply ≡ reply base.opening history c.args.event c.in-Ok.taken.kept =
+          subst (λ s. c.in-Ok.taken.reply ≡ told (is_some (row_of s c.args.event)) (outcome_of s (length history) c.args.event).reply c.in-Ok.taken.kept) c.self.invariant.stands
+          (c.in-Ok.ensures.reply ∙ ap (λ n. told (is_some (row_of (standing c.self.inside.current) c.args.event)) (outcome_of (standing c.self.inside.current) n c.args.event).reply c.in-Ok.taken.kept) (search rules)) in
+    subst (λ v. (x : Entry) × (c.push.new.self.items ≡ v.history ++ x ∷ []) × (x.seat ≡ c.args.seat) × (x.event ≡ c.args.event) × Answers v.base v.history x c.in-Ok.taken.reply)
+    c.self.view_is (entry, items, refl, refl, answers_at base history entry c.in-Ok.taken.reply before now c.self.invariant.keeps went answer)
+
 pub returns-clause-time : goal.returns-clause-time
-returns-clause-time c =
-    let is : c.in-Ok.reply ≡ reply c.args.self.now.base.opening c.args.self.now.history c.args.event true = search rules in
-    subst IsInTime (sym is) (reply_in_time c.args.self.now.base.opening c.args.self.now.history c.args.event true)
+returns-clause-time g c =
+    let history = c.self.inside.history.items in
+    let opening = c.self.inside.opening.lists in
+    let answer : c.in-Ok.taken.reply ≡ reply opening history c.args.event c.in-Ok.taken.kept =
+          subst (λ s. c.in-Ok.taken.reply ≡ told (is_some (row_of s c.args.event)) (outcome_of s (length history) c.args.event).reply c.in-Ok.taken.kept) c.self.invariant.stands
+          (c.in-Ok.ensures.reply ∙ ap (λ n. told (is_some (row_of (standing c.self.inside.current) c.args.event)) (outcome_of (standing c.self.inside.current) n c.args.event).reply c.in-Ok.taken.kept) (search rules)) in
+    subst IsInTime (sym answer) (reply_in_time opening history c.args.event c.in-Ok.taken.kept (opens_in_time opening c.self.invariant.good))

@@ -1,0 +1,60 @@
+-- How a book starts.
+use Rattle.std.proofs.Common.{◌≡◌, ◌⊎◌, inl, ℕ, ◌+◌, ◌-◌, ◌^◌, ◌≤◌, min, Bool, true, false, List, [], Option, Some, None, Result, Ok, Err, IfSome, ap, sym, ◌∙◌, refl, subst, arith}
+use Rattle.std.specs.Option.{option_map}
+use Rattle.keeper_core.specs.Lists.{Lists}
+use Rattle.keeper_core.specs.Held.{Held}
+use Rattle.keeper_core.specs.Keeping.{KeeperFacts, Planned, IsPlanned, HasLoadCause, is_failed_load, load_wants_memory, is_bad_row, fails_now}
+use Rattle.keeper_core.specs.declared.keeper.LoadFault.{LoadFault}
+use Rattle.keeper_core.specs.declared.keeper.LoadFault.TheVariants.{BadRow, Failed}
+use Rattle.keeper_core.specs.declared.keeper.LoadFault.TheVariants as load
+use Rattle.keeper_core.specs.declared.table.Table.{Table}
+use Rattle.book_rules.proofs.Histories.{state_after-nil, plan_after-nil}
+use Rattle.book_rules.specs.History.{Base, state_after, tables_after, plan_after, not_kept}
+use Rattle.book_rules.specs.Machine.{opened}
+use Rattle.book_rules.specs.declared.events.Entry.{Entry}
+use Rattle.book_core.specs.Books.{Keeps}
+use Rattle.book_core.specs.Starts.{StartFails, IsNamed, FailsAt, fault_of}
+
+fails_at : (planned now : Option Planned) → IsPlanned planned true false now → FailsAt planned true
+fails_at None now went = tt
+fails_at (Some plan) now went = sym went.fails
+
+module _ {T : Type 0} where
+  named_by_load : (tables : Option Lists) (before now : KeeperFacts) (table : Table) (row : ℕ) → HasLoadCause {T = T} before now (Err (BadRow table row))
+      → IfSome tables (λ _. is_bad_row {T = T} (Err (BadRow table row)) ≡ false) → IsNamed tables before table row now
+  named_by_load None before now table row cause good = inl (cause.failed refl).1
+  named_by_load (Some lists) before now table row cause good = absurd (let e : true ≡ false = good in cc)
+
+  -- a load that failed is why the book did not start
+  pub by_load : (fault : LoadFault) (before now : KeeperFacts) → HasLoadCause {T = T} before now (Err fault)
+      → IfSome before.tables (λ _. is_bad_row {T = T} (Err fault) ≡ false)
+      → IsPlanned before.planned (is_failed_load {T = T} (Err fault)) (load_wants_memory {T = T} (Err fault)) now.planned → StartFails before (fault_of fault) now
+  by_load (BadRow table row) before now cause good went = named_by_load before.tables before now table row cause good
+  by_load Failed before now cause good went = ((cause.failed refl).1, fails_at before.planned now.planned went)
+  by_load load.Memory before now cause good went = tt
+
+told_first : (opening : Lists) (tables : Option Lists) → IfSome tables (λ lists. opening ≡ lists) → IfSome tables (λ lists. lists ≡ tables_after opening [])
+told_first opening None same = tt
+told_first opening (Some lists) same = sym same ∙ sym (ap (λ s. s.lists) (state_after-nil opening))
+
+planned_first : (opening : Lists) (planned : Option Planned) → planned ≡ option_map (λ plan. plan_after opening plan []) planned
+planned_first opening None = refl
+planned_first opening (Some plan) = ap Some (sym (plan_after-nil opening plan))
+
+keeps_none : (base : Base) (now : KeeperFacts) → base.start ≡ now → now.staged ≡ [] → IfSome now.tables (λ lists. base.opening ≡ lists) → Keeps base [] now
+keeps_none base now same staged loaded =
+    record {
+      told = told_first base.opening now.tables loaded;
+      staged = staged;
+      counted = subst (λ k. min (base.start.faults + 0) (2 ^ 64 - 1) ≤ k.faults) same (omega arith);
+      planned = subst (λ k. k.planned ≡ option_map (λ plan. plan_after base.opening plan []) base.start.planned) same (planned_first base.opening base.start.planned);
+    }
+
+-- a keeper before the first entry
+pub keeps_first : (base : Base) (entries : List Entry) (now : KeeperFacts) → entries ≡ [] → base.start ≡ now → now.staged ≡ []
+    → IfSome now.tables (λ lists. base.opening ≡ lists) → Keeps base entries now
+keeps_first base entries now none same staged loaded = subst (λ e. Keeps base e now) (sym none) (keeps_none base now same staged loaded)
+
+-- what stands before the first entry
+pub stands_first : (opening : Lists) (entries : List Entry) → entries ≡ [] → opened opening ≡ state_after opening entries
+stands_first opening entries none = sym (state_after-nil opening) ∙ ap (state_after opening) (sym none)

@@ -1,0 +1,4 @@
+pub mod Columns
+pub mod Histories
+pub mod Times
+pub mod Viewing

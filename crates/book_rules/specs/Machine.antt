@@ -1,0 +1,103 @@
+-- The machine: what an event comes to, and what stands after it.
+use Rattle.std.specs.Prelude.{ℕ, min, max, Bool, true, false, not, ◌&&◌, ◌||◌, List, [], ◌∷◌, Option, Some, None, is_some, if◌then◌else◌}
+use Rattle.keeper_core.specs.Lists.{Lists, put, stage_row, deployment_row}
+use Rattle.keeper_core.specs.declared.rows.Row.{Row}
+use Rattle.keeper_core.specs.declared.rows.StageRow.{StageRow}
+use Rattle.keeper_core.specs.declared.rows.DeploymentRow.{DeploymentRow}
+use Rattle.keeper_core.specs.declared.rows.JoinRow.{JoinRow}
+use Rattle.book_rules.specs.Commands.{Outcome, says, commanded}
+use Rattle.book_rules.specs.Stored.{deployed_of, variables_in}
+use Rattle.book_rules.specs.declared.events.Command.{Command}
+use Rattle.book_rules.specs.declared.events.Command.TheVariants.{PutApi, Deploy, PutStage, Shutdown}
+use Rattle.book_rules.specs.declared.events.Entry.{Entry}
+use Rattle.book_rules.specs.declared.events.Event.{Event}
+use Rattle.book_rules.specs.declared.events.Event.TheVariants.{Enter, Admin, Leave}
+use Rattle.book_rules.specs.declared.replies.Reply.{Reply}
+use Rattle.book_rules.specs.declared.replies.Reply.TheVariants.{Entered, NoStage, Store, Left, Done, Deployed, Refused}
+
+-- the tables, the latest moment, and whether a Shutdown was taken
+pub record State : Type 0 where
+  pub lists : Lists
+  pub latest : ℕ
+  pub closing : Bool
+
+-- the greatest moment of the rows of joins
+abbrev pub latest_of : List JoinRow → ℕ
+latest_of [] = 0
+latest_of (row ∷ rows) = max row.at (latest_of rows)
+
+-- what stands before the first event
+abbrev pub opened : Lists → State
+opened lists = record { lists = lists; latest = latest_of lists.joins; closing = false }
+
+-- the last moment of the year 2099: a later one is read as this
+unfoldable pub last_moment : ℕ
+last_moment = 4102444799999
+
+-- when an event of this moment happens: time never falls
+abbrev pub time_of : State → ℕ → ℕ
+time_of state moment = max (min moment last_moment) state.latest
+
+abbrev pub time_at : State → Event → ℕ
+time_at state (Enter moment word api stage) = time_of state moment
+time_at state (Admin moment command) = time_of state moment
+time_at state (Leave status cause) = state.latest
+
+-- the view of a stage that points to this deployment
+abbrev pub viewed : ℕ → ℕ → StageRow → Option DeploymentRow → Reply
+viewed place at row None = NoStage
+viewed place at row (Some deployment) =
+    Entered (record { place = place; at = at; deployment = row.deployment; canary = false; api = deployed_of deployment; variables = variables_in row.vars })
+
+abbrev pub entered : Lists → ℕ → ℕ → Option StageRow → Reply
+entered lists place at None = NoStage
+entered lists place at (Some row) = viewed place at row (deployment_row lists row.api row.deployment)
+
+-- what an event comes to at this place
+abbrev pub outcome_of : State → ℕ → Event → Outcome
+outcome_of state place (Enter moment word api stage) = says (entered state.lists place (time_of state moment) (stage_row state.lists api stage))
+outcome_of state place (Admin moment command) = commanded state.lists command
+outcome_of state place (Leave status cause) = says (Left state.closing)
+
+-- an event that writes a row is changing; what it writes does not depend on its place
+abbrev pub row_of : State → Event → Option Row
+row_of state event = (outcome_of state 0 event).row
+
+-- to make this reply, or to write this row, may take memory
+abbrev pub is_entered : Reply → Bool
+is_entered (Entered view) = true
+is_entered NoStage = false
+is_entered Store = false
+is_entered (Left closing) = false
+is_entered Done = false
+is_entered (Deployed number) = false
+is_entered (Refused refusal) = false
+
+abbrev pub takes_memory : Outcome → Bool
+takes_memory outcome = is_some outcome.row || is_entered outcome.reply
+
+-- the reply where the change was kept, and where it was not
+abbrev pub told : Bool → Reply → Bool → Reply
+told changing reply kept = if changing && not kept then Store else reply
+
+abbrev pub put_kept : Option Row → Bool → Lists → Lists
+put_kept None kept lists = lists
+put_kept (Some row) kept lists = if kept then put row lists else lists
+
+-- a Shutdown closes the session
+abbrev pub shuts : Event → Bool
+shuts (Enter moment word api stage) = false
+shuts (Admin moment (PutApi api definition)) = false
+shuts (Admin moment (Deploy api)) = false
+shuts (Admin moment (PutStage api stage number variables)) = false
+shuts (Admin moment Shutdown) = true
+shuts (Leave status cause) = false
+
+-- what stands after an entry
+abbrev pub after : State → Entry → State
+after state entry =
+    record {
+      lists = put_kept (row_of state entry.event) entry.kept state.lists;
+      latest = time_at state entry.event;
+      closing = state.closing || shuts entry.event;
+    }

@@ -1,0 +1,12 @@
+-- Variables of a stage.
+use Rattle.std.specs.Prelude.{ℕ, nat_le, Bool, ◌&&◌, List, length}
+use Rattle.std.specs.List.{list_all}
+use Rattle.gw_base.specs.Names.{is_name}
+use Rattle.record_fields.specs.Coding.{is_utf8}
+
+-- a variable: a name, and a text of at most 2,048 bytes
+unfoldable pub is_variable : List ℕ × List ℕ → Bool
+is_variable pair = is_name pair.0 && is_utf8 pair.1 && nat_le (length pair.1) 2048
+
+abbrev pub are_variables : List (List ℕ × List ℕ) → Bool
+are_variables pairs = list_all is_variable pairs

@@ -1,0 +1,102 @@
+use api_model::Api;
+use call_facts::{Kind, Vars};
+use gw_base::{Shared, Text};
+
+/// The most entries of a history, and the most bytes of its events' texts.
+#[derive(Clone, Copy, Debug, PartialEq, Eq)]
+pub struct Limits {
+    pub entries: u32,
+    pub bytes: u64,
+}
+
+/// A change that an administrator asks for. What each refuses, and in which order, is in `specs/Commands.antt`.
+pub enum Command {
+    /// Makes an API, or gives it another definition.
+    PutApi {
+        api: Text,
+        definition: Shared<Api>,
+    },
+    /// Takes a snapshot of an API's definition, under the next number from 1.
+    Deploy {
+        api: Text,
+    },
+    /// Makes a stage of an API, or points it to another deployment, and replaces its variables.
+    PutStage {
+        api: Text,
+        stage: Text,
+        deployment: u32,
+        variables: Shared<Vars>,
+    },
+    /// Closes the session: from here on each answer is the last one on its connection.
+    Shutdown,
+}
+
+/// What happens to a book. A moment is in milliseconds since 1970.
+pub enum Event {
+    /// A request comes to a stage, with its word of chance.
+    Enter {
+        moment: u64,
+        word: u64,
+        api: Text,
+        stage: Text,
+    },
+    /// An administrator asks for a change.
+    Admin {
+        moment: u64,
+        command: Command,
+    },
+    /// A request is answered with this status, and by a gateway response where a cause stands.
+    Leave {
+        status: u16,
+        cause: Option<Kind>,
+    },
+}
+
+/// An event in its place in the history: which seat made it, and whether its change was kept.
+#[derive(Drop)]
+pub struct Entry {
+    pub seat: u32,
+    pub event: Event,
+    pub kept: bool,
+}
+
+// Written by hand, so that a function that lets a value go makes one call in place of a branch for each variant.
+impl Drop for Command {
+    fn drop(self) {
+        match self {
+            Command::PutApi {
+                api: _,
+                definition: _,
+            } => {}
+            Command::Deploy { api: _ } => {}
+            Command::PutStage {
+                api: _,
+                stage: _,
+                deployment: _,
+                variables: _,
+            } => {}
+            Command::Shutdown => {}
+        }
+    }
+}
+
+impl Drop for Event {
+    fn drop(self) {
+        match self {
+            Event::Enter {
+                moment: _,
+                word: _,
+                api: _,
+                stage: _,
+            } => {}
+            Event::Admin {
+                moment: _,
+                command: _,
+            } => {}
+            Event::Leave {
+                status: _,
+                cause: _,
+            } => {}
+        }
+    }
+}

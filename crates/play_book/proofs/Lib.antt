@@ -1,0 +1,5 @@
+pub mod Finding
+pub mod Histories
+pub mod Placing
+pub mod Viewing
+mod Times

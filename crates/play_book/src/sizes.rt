@@ -1,0 +1,50 @@
+// What the texts of an event sum up to.
+ghost use Rattle.std.specs.Prelude.{◌≡◌};
+ghost use Rattle.play_book.specs.History.{capped, size as size_of_event, command_size as command_size_of, variables_size as variables_size_of};
+
+use crate::events::{Command, Event};
+use call_facts::Vars;
+use gw_base::Text;
+
+// The bytes of names and values.
+fn variables_size(pairs: &[(Text, Text)]) -> u128
+    ensures { result ≡ capped (variables_size_of pairs.now) }
+{
+    let mut sum: u128 = 0;
+    for pair in pairs {
+        sum = sum.saturating_add(pair.0.len() as u128 + pair.1.len() as u128);
+    }
+    sum
+}
+
+fn command_size(command: &Command) -> u128
+    ensures { result ≡ capped (command_size_of command.now) }
+{
+    match command {
+        Command::PutApi { api, definition } => {
+            api.len() as u128 + definition.value().source().len() as u128
+        }
+        Command::Deploy { api } => api.len() as u128,
+        Command::PutStage {
+            api,
+            stage,
+            variables,
+            ..
+        } => {
+            variables_size(variables.value().pairs.as_slice()).saturating_add(
+                api.len() as u128 + stage.len() as u128,
+            )
+        }
+    }
+}
+
+/// The bytes of all texts of an event, up to the greatest number of 128 bits.
+pub fn size(event: &Event) -> u128
+    ensures { result ≡ capped (size_of_event event.now) }
+{
+    match event {
+        Event::Enter { api, stage, .. } => api.len() as u128 + stage.len() as u128,
+        Event::Admin { command, .. } => command_size(command),
+        Event::Leave { .. } => 0,
+    }
+}

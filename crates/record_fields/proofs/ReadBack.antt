@@ -1,6 +1,6 @@
 -- Columns, read again.
-use Rattle.std.proofs.Common.{◌≡◌, ℕ, zero, suc, ◌+◌, ◌<◌, ◌==◌, nat_lt, Bool, true, false, not, cond, ◌&&◌, List, [], ◌∷◌, ◌++◌, length, get_or, take, drop, map, position, Option, Some, None, All, arith, add-one, refl, ap, sym, subst, ◌∙◌}
-use Rattle.std.specs.List.{list_all, prefix_len, position_or_len}
+use Rattle.std.proofs.Common.{◌≡◌, ℕ, suc, ◌+◌, ◌<◌, ◌==◌, nat_lt, Bool, true, false, not, cond, ◌&&◌, List, [], ◌∷◌, ◌++◌, length, get_or, take, drop, map, position, Option, Some, None, All, arith, refl, ap, sym, ◌∙◌}
+use Rattle.std.specs.List.{list_all, position_or_len}
 use Rattle.std.specs.Option.{option_and_then, option_map}
 use Rattle.std.specs.Str.{bytes_eq}
 use Rattle.std.proofs.Math.Seq.{take-append_seam, drop-append-add}
@@ -9,10 +9,9 @@ use Rattle.std.proofs.lemmas.Slice.Eq.{bytes_eq-Decides}
 use Rattle.std.proofs.lemmas.List.{length-append}
 use Rattle.std.proofs.lemmas.List.Elements.{All-cons, All-append}
 use Rattle.percent_encoding.specs.Percent.{percent_decode}
-use Rattle.percent_encoding.proofs.PercentLemmas.{IsByte, percent_encode_nonempty, round_trip}
-use Rattle.record_fields.specs.Coding.{decoded, all_decoded, before_all, fields_of, parts_of, is_utf8, text_of}
+use Rattle.percent_encoding.proofs.PercentLemmas.{IsByte, round_trip}
+use Rattle.record_fields.specs.Coding.{decoded, all_decoded, before_all, fields_of, is_utf8, text_of}
 use Rattle.record_fields.specs.Pairs.{parted, pair_of, pairs_of, before_each}
-use Rattle.record_fields.specs.Writing.{coded}
 use Rattle.record_fields.specs.Columns.{pair_field, column, column_pairs, if_spelled, is_column_pair}
 use Rattle.record_fields.specs.declared.coding.TheConstants.{CODED}
 use Rattle.record_fields.proofs.Coded.{decoded_coded}
@@ -85,7 +84,7 @@ plain_parted name value apart =
     let at = first_equals name value apart in
     let shorter : length name < length (name ++ 61 ∷ value) = grind (arith, length-append) in
     let found : position (λ b. b == 61) (name ++ 61 ∷ value) ≡ Some (length name) =
-      ap (λ n. cond (nat_lt n (length (name ++ 61 ∷ value))) (Some n) None) at ∙ cond-true _ (Some (length name)) None (lt-ltb (length name) (length (name ++ 61 ∷ value)) shorter) in
+    ap (λ n. cond (nat_lt n (length (name ++ 61 ∷ value))) (Some n) None) at ∙ cond-true _ (Some (length name)) None (lt-ltb (length name) (length (name ++ 61 ∷ value)) shorter) in
     let front = take-append_seam name (61 ∷ value) in
     let back = drop-append-add name (61 ∷ value) 1 in
     ap (option_map (λ n. (take n (name ++ 61 ∷ value), drop (n + 1) (name ++ 61 ∷ value)))) found ∙ ap (λ x. Some (x, drop (length name + 1) (name ++ 61 ∷ value))) front ∙ ap (λ y. Some (name, y)) back

@@ -37,7 +37,11 @@ pub fn write_column(alloc: Global, pairs: &[(Text, Text)]) -> Result<Text, Memor
 }
 
 // The pairs, where their column is just this text.
-fn if_spelled(alloc: Global, column: &str, pairs: Vec<(Text, Text)>) -> Result<Option<Vec<(Text, Text)>>, Memory>
+fn if_spelled(
+    alloc: Global,
+    column: &str,
+    pairs: Vec<(Text, Text)>,
+) -> Result<Option<Vec<(Text, Text)>>, Memory>
     ensures { IfOk result (λ same. option_map (λ v. v.items) same ≡ if_spelled_of column.now pairs.items) }
 {
     let spelled = write_column(alloc, &pairs)?;

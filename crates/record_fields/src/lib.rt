@@ -18,7 +18,7 @@
 //! | `007`, as a number | 7 |
 //! | `18446744073709551616`, `1x`, one of 21 digits, as a number | no number of 64 bits |
 //! | the empty text; `env=a%20b log=`, as a column | no pairs; env and `a b`, log and nothing |
-//! | `env=%2f`, `env=%41`, one with two spaces, as a column | nothing: its pairs are spelled otherwise |
+//! | `env=%0a`, `env=%41`, one with two spaces, as a column | nothing: a column has one form |
 //!
 //! What the contracts promise: each answer is that of the definition of its name, in both directions (`specs/Coding.antt`,
 //! `specs/Numbers.antt`, `specs/Pairs.antt`, `specs/Writing.antt`, `specs/Columns.antt`); want of memory alone has no cause. The

@@ -1,5 +1,5 @@
 -- Columns, read again.
-use Rattle.std.proofs.Common.{◌≡◌, ℕ, suc, ◌+◌, ◌<◌, ◌==◌, nat_lt, Bool, true, false, not, cond, ◌&&◌, List, [], ◌∷◌, ◌++◌, length, get_or, take, drop, map, position, Option, Some, None, All, arith, refl, ap, sym, ◌∙◌}
+use Rattle.std.proofs.Common.{◌≡◌, ℕ, suc, ◌+◌, ◌<◌, ◌==◌, nat_lt, Bool, true, false, not, cond, List, [], ◌∷◌, ◌++◌, length, get_or, take, drop, map, position, Option, Some, None, All, arith, refl, ap, sym, ◌∙◌}
 use Rattle.std.specs.List.{list_all, position_or_len}
 use Rattle.std.specs.Option.{option_and_then, option_map}
 use Rattle.std.specs.Str.{bytes_eq}
@@ -12,7 +12,7 @@ use Rattle.percent_encoding.specs.Percent.{percent_decode}
 use Rattle.percent_encoding.proofs.PercentLemmas.{IsByte, round_trip}
 use Rattle.record_fields.specs.Coding.{decoded, all_decoded, before_all, fields_of, is_utf8, text_of}
 use Rattle.record_fields.specs.Pairs.{parted, pair_of, pairs_of, before_each}
-use Rattle.record_fields.specs.Columns.{pair_field, column, column_pairs, if_spelled, is_column_pair}
+use Rattle.record_fields.specs.Columns.{pair_field, column, column_pairs, if_spelled, is_pair_of_texts, is_column_pair}
 use Rattle.record_fields.specs.declared.coding.TheConstants.{CODED}
 use Rattle.record_fields.proofs.Coded.{decoded_coded}
 use Rattle.record_fields.proofs.Joined.{parts_of_column, plain_any, column_any}
@@ -30,9 +30,9 @@ record IsPair (pair : List ℕ × List ℕ) : Type 0 where
 
 pair_facts : (pair : List ℕ × List ℕ) → is_column_pair pair ≡ true → IsPair pair
 pair_facts pair is =
-    let outer = and_parts (list_all (λ b. not (b == 61)) pair.0 && is_utf8 pair.0) (is_utf8 pair.1) is in
-    let inner = and_parts (list_all (λ b. not (b == 61)) pair.0) (is_utf8 pair.0) outer.0 in
-    record { apart = inner.0; name = inner.1; value = outer.1 }
+    let outer = and_parts (list_all (λ b. not (b == 61)) pair.0) (is_pair_of_texts pair) is in
+    let inner = and_parts (is_utf8 pair.0) (is_utf8 pair.1) outer.1 in
+    record { apart = outer.0; name = inner.0; value = inner.1 }
 
 plain_bytes : (pair : List ℕ × List ℕ) → IsPair pair → All IsByte (plain pair)
 plain_bytes pair is =

@@ -1,11 +1,11 @@
 -- Bytes that are told to be UTF-8.
 use Rattle.std.proofs.Common.{◌≡◌, ℕ, zero, suc, ◌+◌, ◌/◌, ◌%◌, ◌<◌, ◌≤◌, true, false, ltb, List, [], ◌∷◌, length, take, All, IsUtf8, arith, sym, subst, ◌∙◌, refl, ⊎_elim}
 use lib.Utf8.{scalar, scalars, scalar_cases, encode, encodes}
-use Rattle.std.proofs.lemmas.Bool.{cond-false, cond_both, eqb-true, ltb-true, and_parts}
+use Rattle.std.proofs.lemmas.Bool.{cond-false, cond_both, eqb-true, eq-eqb, ltb-true, and_parts}
 use Rattle.std.proofs.lemmas.Bool.Decides.{nat_tests}
 use Rattle.std.proofs.Math.Seq.{take-length}
 use Rattle.std.proofs.lemmas.List.Elements.{All-nil, All-cons, All-append}
-use Rattle.std.proofs.lemmas.Str.{IsUtf8-from_is_utf8, IsUtf8-nil}
+use Rattle.std.proofs.lemmas.Str.{IsUtf8-from_is_utf8, IsUtf8-nil, utf8_valid_len-IsUtf8}
 use Rattle.std.specs.Str.{is_utf8 as is_utf8_of}
 use Rattle.std.specs.Str.Lossy.{utf8_valid_len, valid_len_up_to}
 use Rattle.percent_encoding.proofs.PercentLemmas.{IsByte}
@@ -61,3 +61,7 @@ encodes_bytes (c ∷ cs) are =
 -- UTF-8 has bytes alone
 pub bytes_from_utf8 : (bytes : List ℕ) → IsUtf8 bytes → All IsByte bytes
 bytes_from_utf8 bytes utf8 = subst (All IsByte) utf8.1.1 (encodes_bytes utf8.0 utf8.1.0)
+
+-- what a text lends is UTF-8, and so the text is told to be
+pub told_utf8 : (text lent : List ℕ) → lent ≡ text → IsUtf8 lent → is_utf8 text ≡ true
+told_utf8 text lent same utf8 = subst (λ t. is_utf8 t ≡ true) same (eq-eqb (utf8_valid_len lent) (length lent) (utf8_valid_len-IsUtf8 lent utf8))

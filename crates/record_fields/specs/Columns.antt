@@ -25,9 +25,13 @@ unfoldable pub column_pairs : List ℕ → Option (List (List ℕ × List ℕ))
 column_pairs [] = Some []
 column_pairs (b ∷ bs) = option_and_then (if_spelled (b ∷ bs)) (option_and_then pairs_of (fields_of (b ∷ bs)))
 
--- both parts are texts, and the name has no `=`
+-- both parts are texts
+abbrev pub is_pair_of_texts : List ℕ × List ℕ → Bool
+is_pair_of_texts pair = is_utf8 pair.0 && is_utf8 pair.1
+
+-- they are, and the name has no `=`
 abbrev pub is_column_pair : List ℕ × List ℕ → Bool
-is_column_pair pair = list_all (λ b. not (b == 61)) pair.0 && is_utf8 pair.0 && is_utf8 pair.1
+is_column_pair pair = list_all (λ b. not (b == 61)) pair.0 && is_pair_of_texts pair
 
 -- the column of such pairs stands for just them
 abbrev pub ColumnsAreReadBack : Type 0

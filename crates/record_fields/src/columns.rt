@@ -1,8 +1,9 @@
 // Columns of pairs.
-ghost use Rattle.std.specs.Prelude.{◌≡◌, ◌++◌, IfOk, OnOk};
+ghost use Rattle.std.specs.Prelude.{◌≡◌, ◌++◌, true, IfOk, OnOk};
+ghost use Rattle.std.specs.List.{list_all};
 ghost use Rattle.std.specs.Option.{option_map};
 ghost use Rattle.std.specs.String.{string_bytes};
-ghost use Rattle.record_fields.specs.Columns.{pair_field, column as column_of, if_spelled as if_spelled_of, column_pairs};
+ghost use Rattle.record_fields.specs.Columns.{pair_field, column as column_of, is_pair_of_texts, if_spelled as if_spelled_of, column_pairs};
 
 use crate::coding::CODED;
 use crate::fields::fields_in;
@@ -21,9 +22,11 @@ fn append_pair(text: &mut String, name: &str, value: &str) -> Result<(), Memory>
     Ok(())
 }
 
-/// The column of pairs: their fields `name=value`, joined by one space; of no pairs it is empty.
+/// The column of pairs: their fields `name=value`, joined by one space; of no pairs it is empty. The pairs are of texts, so that
+/// the column stands for them where no name has a `=`.
 pub fn write_column(alloc: Global, pairs: &[(Text, Text)]) -> Result<Text, Memory>
-    ensures { IfOk result (λ text. text ≡ column_of pairs.now) }
+    ensures value { IfOk result (λ text. text ≡ column_of pairs.now) }
+    ensures texts { OnOk result (list_all is_pair_of_texts pairs.now ≡ true) }
 {
     let mut text = String::new(alloc);
     for (name, value) in pairs {

@@ -1,7 +1,11 @@
-use Rattle.std.proofs.Common.{◌≡◌, ◌==◌, ◌++◌, ◌∷◌, [], length, take, get_or, ◌∙◌, ap, sym, lit<}
+use Rattle.std.proofs.Common.{◌≡◌, true, ◌==◌, ◌++◌, ◌∷◌, [], length, take, get_or, ◌∙◌, ap, sym, lit<}
 use Rattle.std.specs.String.{string_bytes, string_len}
-use Rattle.std.proofs.lemmas.Bool.{cond-true, cond-false}
-use Rattle.record_fields.specs.Columns.{pair_field, column}
+use Rattle.std.proofs.lemmas.Bool.{cond-true, cond-false, and_from}
+use Rattle.std.proofs.lemmas.List.Folds.{list_all_more}
+use Rattle.std.specs.List.{list_all}
+use Rattle.record_fields.specs.Coding.{is_utf8}
+use Rattle.record_fields.proofs.Utf8.{told_utf8}
+use Rattle.record_fields.specs.Columns.{pair_field, column, is_pair_of_texts}
 use Rattle.record_fields.proofs.Joined.{spaced, column_more}
 use Rattle.record_fields.proofs.columns.write_column.Goals as goal
 use Rattle.record_fields.proofs.columns.write_column.Goals.{then-not-is_empty+in_ok-push, else-not-is_empty}
@@ -22,5 +26,14 @@ loop-name-preserved c =
     let named : pair_field (c.as_str.result.now, c.as_str-in-loop-name.result.now) ≡ pair_field (get_or pairs c.loop-name.name-index pair) =
     ap (λ name. pair_field (name, c.as_str-in-loop-name.result.now)) c.as_str.ensures ∙ ap (λ value. pair_field (pair.0, value)) c.as_str-in-loop-name.ensures
     ∙ ap pair_field c.loop-name-item.is in
-    c.in_ok-append_pair.ensures ∙ ap (λ t. t ++ pair_field (c.as_str.result.now, c.as_str-in-loop-name.result.now)) (behind ∙ ap spaced c.loop-name.invariant)
-    ∙ ap (λ t. spaced (column (take c.loop-name.name-index pairs)) ++ t) named ∙ column_more pairs c.loop-name.name-index pair c.loop-name-test.true
+    let column_is = c.in_ok-append_pair.ensures ∙ ap (λ t. t ++ pair_field (c.as_str.result.now, c.as_str-in-loop-name.result.now)) (behind ∙ ap spaced c.loop-name.invariant.so_far)
+    ∙ ap (λ t. spaced (column (take c.loop-name.name-index pairs)) ++ t) named ∙ column_more pairs c.loop-name.name-index pair c.loop-name-test.true in
+    let both : is_pair_of_texts pair ≡ true =
+    and_from (is_utf8 pair.0) (is_utf8 pair.1) (told_utf8 pair.0 c.as_str.result.now c.as_str.ensures c.as_str.utf8)
+    (told_utf8 pair.1 c.as_str-in-loop-name.result.now c.as_str-in-loop-name.ensures c.as_str-in-loop-name.utf8) in
+    record {
+      so_far = column_is;
+      texts =
+          list_all_more is_pair_of_texts pairs c.loop-name.name-index pair c.loop-name-test.true
+          ∙ and_from (list_all is_pair_of_texts (take c.loop-name.name-index pairs)) (is_pair_of_texts (get_or pairs c.loop-name.name-index pair)) c.loop-name.invariant.texts (ap is_pair_of_texts (sym c.loop-name-item.is) ∙ both);
+    }

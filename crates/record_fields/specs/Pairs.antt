@@ -1,5 +1,5 @@
 -- Fields `name=value`.
-use Rattle.std.specs.Prelude.{ℕ, ◌==◌, ◌+◌, List, [], ◌∷◌, take, drop, position, Option, Some, None}
+use Rattle.std.specs.Prelude.{ℕ, ◌==◌, ◌+◌, List, [], ◌∷◌, take, drop, position, Option, Some}
 use Rattle.std.specs.Option.{option_and_then, option_map}
 use Rattle.record_fields.specs.Coding.{text_of}
 

@@ -133,7 +133,13 @@ impl<K: Keeper> Book<K> {
                 bytes: self.bytes,
             });
         }
-        let taken = take(&mut self.current, &mut self.keeper, alloc, entries as u64, &event);
+        let taken = take(
+            &mut self.current,
+            &mut self.keeper,
+            alloc,
+            entries as u64,
+            &event,
+        );
         let Ok(taken) = taken else {
             return Err(StepFault::Memory);
         };

@@ -22,11 +22,7 @@ fn item_at<T>(items: &[T], place: Place) -> Option<&T>
 }
 
 /// The definition of an API.
-pub fn find_definition<'a>(
-    tables: &Tables,
-    ready: &'a Ready,
-    api: &str,
-) -> Option<&'a Shared<Api>>
+pub fn find_definition<'a>(tables: &Tables, ready: &'a Ready, api: &str) -> Option<&'a Shared<Api>>
     requires ready { AreReady tables.now.lists ready.now }
     ensures { option_copied result ≡ option_map definition_of (api_row tables.now.lists api.now) }
 {

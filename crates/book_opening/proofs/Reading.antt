@@ -8,8 +8,8 @@ use Rattle.std.specs.Str.Lossy.{utf8_valid_len}
 use Rattle.call_facts.specs.Pairs.{Pairs}
 use Rattle.record_fields.specs.Coding.{is_utf8}
 use Rattle.api_model.specs.Definition.{Definition}
-use Rattle.api_model.specs.declared.api.ApiFault.{ApiFault}
-use Rattle.api_model.specs.declared.api.ApiCause.TheVariants.{Memory}
+use Rattle.api_parts.specs.declared.fault.ApiFault.{ApiFault}
+use Rattle.api_parts.specs.declared.fault.ApiCause.TheVariants.{Memory}
 use Rattle.book_rules.specs.Good.{stage_in, all_stages, before_each_stage}
 use Rattle.book_opening.specs.Ready.{if_taken}
 

@@ -22,12 +22,13 @@ fn share(alloc: Global, read: Result<Api, ApiFault>) -> Result<Option<Shared<Api
 {
     match read {
         Ok(api) => Ok(Some(Shared::new(alloc, api)?)),
-        Err(fault) => {
-            if fault.cause == ApiCause::Memory {
-                return Err(Memory);
-            }
-            Ok(None)
-        }
+        Err(
+            ApiFault {
+                cause: ApiCause::Memory,
+                ..
+            },
+        ) => Err(Memory),
+        Err(_) => Ok(None),
     }
 }
 

@@ -125,10 +125,11 @@ deployment_put rows row api number true e =
     subst (λ a. find (is_deployment a number) (put_by (is_deployment row.api row.number) (deployment_behind row.api row.number) row rows) ≡ Some row) named
     (subst (λ k. find (is_deployment row.api k) (put_by (is_deployment row.api row.number) (deployment_behind row.api row.number) row rows) ≡ Some row) numbered
     (found_put (is_deployment row.api row.number) (deployment_behind row.api row.number) row rows
-      (both (bytes_eq row.api row.api) (row.number == row.number) (is_itself row.api) (same_itself row.number)) (find (is_deployment row.api row.number) rows) refl))
+    (both (bytes_eq row.api row.api) (row.number == row.number) (is_itself row.api) (same_itself row.number)) (find (is_deployment row.api row.number) rows) refl))
   where
     same_number : (a b : ℕ) → (a == b) ≡ true → a ≡ b
     same_number a b e = grind arith
+
     same_itself : (a : ℕ) → (a == a) ≡ true
     same_itself a = grind arith
 deployment_put rows row api number false e =
@@ -150,7 +151,7 @@ stage_put rows row api stage true e =
     subst (λ a. find (is_stage a stage) (put_by (is_stage row.api row.stage) (stage_behind row.api row.stage) row rows) ≡ Some row) named
     (subst (λ s. find (is_stage row.api s) (put_by (is_stage row.api row.stage) (stage_behind row.api row.stage) row rows) ≡ Some row) titled
     (found_put (is_stage row.api row.stage) (stage_behind row.api row.stage) row rows
-      (both (bytes_eq row.api row.api) (bytes_eq row.stage row.stage) (is_itself row.api) (is_itself row.stage)) (find (is_stage row.api row.stage) rows) refl))
+    (both (bytes_eq row.api row.api) (bytes_eq row.stage row.stage) (is_itself row.api) (is_itself row.stage)) (find (is_stage row.api row.stage) rows) refl))
 stage_put rows row api stage false e =
     beside_put (is_stage row.api row.stage) (stage_behind row.api row.stage) row rows (is_stage api stage) e
     (λ y h. other_stage y row.api row.stage api stage e h) (find (is_stage row.api row.stage) rows)
@@ -184,8 +185,8 @@ module _ (rows : List StageRow) (found : Option StageRow) (name title : List ℕ
   staged_put api stage =
       let b = bytes_eq stage_row'.api api && bytes_eq stage_row'.stage stage in
       let same : b ≡ (bytes_eq name api && bytes_eq title stage) =
-            ap (λ a. bytes_eq a api && bytes_eq stage_row'.stage stage) (named_as found name title number (column_of (once variables)))
-            ∙ ap (λ s. bytes_eq name api && bytes_eq s stage) (titled_as found name title number (column_of (once variables))) in
+      ap (λ a. bytes_eq a api && bytes_eq stage_row'.stage stage) (named_as found name title number (column_of (once variables)))
+      ∙ ap (λ s. bytes_eq name api && bytes_eq s stage) (titled_as found name title number (column_of (once variables))) in
       ap (option_map staged_of) (stage_put rows stage_row' api stage b refl)
       ∙ mapped staged_of b stage_row' (find (is_stage api stage) rows)
       ∙ ap (λ s. cond b (Some s) (option_map staged_of (find (is_stage api stage) rows))) (staged_back found name title number variables taken)
@@ -265,7 +266,7 @@ stage_command lists (PutStage name title number variables) kept api stage =
     (Stage (stage_of (stage_row lists name title) name title number (column_of (once variables)))) Done kept
     (first_refusal (put_stage_tests lists name title number variables))
     (λ none. staged_put lists.stages (stage_row lists name title) name title number variables
-      (are_taken lists name title number variables none) api stage)
+    (are_taken lists name title number variables none) api stage)
 stage_command lists Shutdown kept api stage = refl
 
 deployment_deployed : (lists : Lists) (row : ApiRow) (name api : List ℕ) (number : ℕ) → api_row lists name ≡ Some row
@@ -279,10 +280,13 @@ deployment_deployed lists row name api number e =
   where
     count : ℕ
     count = deployed lists name
+
     named : row.api ≡ name
     named = same_text row.api name (found_holds (is_api name) lists.apis row e)
+
     either_way : (a b : ℕ) → (a == b) ≡ (b == a)
     either_way a b = grind arith
+
     by_name : (b : Bool) → bytes_eq name api ≡ b
         → cond (b && (count + 1 == number)) (Some (definition_of row)) (option_map deployed_of (deployment_row lists api number))
         ≡ cond (b && (number == deployed lists api + 1)) (option_map definition_of (api_row lists api)) (option_map deployed_of (deployment_row lists api number))
@@ -290,9 +294,9 @@ deployment_deployed lists row name api number e =
     by_name true same =
         ap (λ b. cond b (Some (definition_of row)) (option_map deployed_of (deployment_row lists api number))) (either_way (count + 1) number)
         ∙ subst (λ a. cond (number == count + 1) (Some (definition_of row)) (option_map deployed_of (deployment_row lists api number))
-          ≡ cond (number == deployed lists a + 1) (option_map definition_of (api_row lists a)) (option_map deployed_of (deployment_row lists api number)))
-          (same_text name api same)
-          (ap (λ d. cond (number == count + 1) d (option_map deployed_of (deployment_row lists api number))) (sym (ap (option_map definition_of) e)))
+        ≡ cond (number == deployed lists a + 1) (option_map definition_of (api_row lists a)) (option_map deployed_of (deployment_row lists api number)))
+        (same_text name api same)
+        (ap (λ d. cond (number == count + 1) d (option_map deployed_of (deployment_row lists api number))) (sym (ap (option_map definition_of) e)))
 
 deployment_command : (lists : Lists) (command : Command) (kept : Bool) (api : List ℕ) (number : ℕ)
     → option_map deployed_of (deployment_row (put_kept (commanded lists command).row kept lists) api number)

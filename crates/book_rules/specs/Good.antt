@@ -61,7 +61,6 @@ first_refused refuses before (row ∷ rows) = if refuses before row then Some (l
 abbrev pub is_flag : ℕ → Bool
 is_flag n = nat_le n 1
 
-
 -- a definition that is read
 unfoldable pub is_stated : Definition → Bool
 is_stated definition = is_ok (stated definition)

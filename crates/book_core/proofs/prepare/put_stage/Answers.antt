@@ -17,9 +17,10 @@ returns-clause-prepared c =
     let found = stage_row lists c.args.api.now c.args.stage.now in
     let made = stage_of found c.args.api.now c.args.stage.now c.args.deployment (column_of (once c.args.variables.now)) in
     let row : c.in_ok-row.row ≡ made = search rules in
-    let variables : c.in_ok-variables.variables ≡ once c.args.variables.now = search rules in
-    (ap (λ r. unless r (writes (Stage made) Done)) none ∙ ap (λ r. writes (Stage r) Done) (sym row),
+    let variables : c.in_ok-variables.variables ≡ once c.args.variables.now = search rules in (
+      ap (λ r. unless r (writes (Stage made) Done)) none ∙ ap (λ r. writes (Stage r) Done) (sym row),
       ap (λ v. record { deployment = c.args.deployment; variables = v }) variables
-      ∙ sym (standing_back found c.args.api.now c.args.stage.now c.args.deployment c.args.variables.now
-        (are_taken lists c.args.api.now c.args.stage.now c.args.deployment c.args.variables.now none))
-      ∙ ap standing_of (sym row))
+          ∙ sym (standing_back found c.args.api.now c.args.stage.now c.args.deployment c.args.variables.now
+          (are_taken lists c.args.api.now c.args.stage.now c.args.deployment c.args.variables.now none))
+          ∙ ap standing_of (sym row),
+    )

@@ -6,7 +6,7 @@ use Rattle.book_opening.proofs.stages.open_stages.Goals as goal
 
 pub returns-in_default-clause-refused : goal.returns-in_default-clause-refused
 returns-in_default-clause-refused c =
-    let same = c.stages-rows.ensures in (
+    let same = c.stages-rows.ensures.rows in (
       refl,
       read_stops (takes_stage c.args.tables.now.lists) standing_of c.args.tables.now.lists.stages c.loop-i.i c.loop-i.stages.items c.index-rows-i.result (rw same at c.loop-i-test.true)
           (rw same at c.index-rows-i.is) (rw same at (sym c.in_default.is ∙ c.in_ok-stage.ensures)) c.loop-i.invariant,
@@ -14,7 +14,7 @@ returns-in_default-clause-refused c =
 
 pub loop-i-preserved : goal.loop-i-preserved
 loop-i-preserved c =
-    let same = c.stages-rows.ensures in
+    let same = c.stages-rows.ensures.rows in
     let lists = c.args.tables.now.lists in
     let more =
     read_goes_on (takes_stage lists) standing_of lists.stages c.loop-i.i c.loop-i.stages.items c.index-rows-i.result c.in-Some.stage (rw same at c.loop-i-test.true)

@@ -45,8 +45,8 @@ returns-clause-taken g c =
     let now = g.K.Keeper.facts c.take-taken.new.keeper in
     let went = subst (λ s. Went (row_of s c.args.event) c.in-Ok.taken.kept before now) c.self.invariant.stands c.in-Ok.ensures.keeper in
     let answer : c.in-Ok.taken.reply ≡ reply base.opening history c.args.event c.in-Ok.taken.kept =
-          subst (λ s. c.in-Ok.taken.reply ≡ told (is_some (row_of s c.args.event)) (outcome_of s (length history) c.args.event).reply c.in-Ok.taken.kept) c.self.invariant.stands
-          (c.in-Ok.ensures.reply ∙ ap (λ n. told (is_some (row_of (standing c.self.inside.current) c.args.event)) (outcome_of (standing c.self.inside.current) n c.args.event).reply c.in-Ok.taken.kept) (search rules)) in
+    subst (λ s. c.in-Ok.taken.reply ≡ told (is_some (row_of s c.args.event)) (outcome_of s (length history) c.args.event).reply c.in-Ok.taken.kept) c.self.invariant.stands
+    (c.in-Ok.ensures.reply ∙ ap (λ n. told (is_some (row_of (standing c.self.inside.current) c.args.event)) (outcome_of (standing c.self.inside.current) n c.args.event).reply c.in-Ok.taken.kept) (search rules)) in
     subst (λ v. (x : Entry) × (c.push.new.self.items ≡ v.history ++ x ∷ []) × (x.seat ≡ c.args.seat) × (x.event ≡ c.args.event) × Answers v.base v.history x c.in-Ok.taken.reply)
     c.self.view_is (entry, items, refl, refl, answers_at base history entry c.in-Ok.taken.reply before now c.self.invariant.keeps went answer)
 
@@ -55,6 +55,6 @@ returns-clause-time g c =
     let history = c.self.inside.history.items in
     let opening = c.self.inside.opening.lists in
     let answer : c.in-Ok.taken.reply ≡ reply opening history c.args.event c.in-Ok.taken.kept =
-          subst (λ s. c.in-Ok.taken.reply ≡ told (is_some (row_of s c.args.event)) (outcome_of s (length history) c.args.event).reply c.in-Ok.taken.kept) c.self.invariant.stands
-          (c.in-Ok.ensures.reply ∙ ap (λ n. told (is_some (row_of (standing c.self.inside.current) c.args.event)) (outcome_of (standing c.self.inside.current) n c.args.event).reply c.in-Ok.taken.kept) (search rules)) in
+    subst (λ s. c.in-Ok.taken.reply ≡ told (is_some (row_of s c.args.event)) (outcome_of s (length history) c.args.event).reply c.in-Ok.taken.kept) c.self.invariant.stands
+    (c.in-Ok.ensures.reply ∙ ap (λ n. told (is_some (row_of (standing c.self.inside.current) c.args.event)) (outcome_of (standing c.self.inside.current) n c.args.event).reply c.in-Ok.taken.kept) (search rules)) in
     subst IsInTime (sym answer) (reply_in_time opening history c.args.event c.in-Ok.taken.kept (opens_in_time opening c.self.invariant.good))

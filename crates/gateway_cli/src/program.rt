@@ -17,8 +17,8 @@ use crate::render::judge;
 use crate::say::{say, say_fault, stop_of};
 use crate::stopped::Stopped;
 use crate::words::{check_name, is_play, render_names};
-use play_book::Limits;
 use gw_base::{ReadAll, Sink, Source, Text, read_all};
+use play_book::Limits;
 use play_script::play_within;
 use std::alloc::Global;
 

@@ -3,10 +3,10 @@ ghost use Rattle.std.specs.Prelude.{◌≡◌, ◌≢◌, ◌<◌, [], Some, Non
 ghost use Rattle.play_book.specs.Times.{IsInTime};
 ghost use Rattle.play_connection.specs.Answering.{facts_of as facts_of_view, made_at, made_by, made_for};
 
-use play_book::{Reply, View};
 use call_facts::{CallFacts, Kind, Request, Target};
 use gw_base::{Memory, Text};
 use method_flow::{Made, answer_itself, answer_text};
+use play_book::{Reply, View};
 use std::alloc::Global;
 
 // What is known of a call to a stage that has this view.

@@ -9,11 +9,11 @@ ghost use Rattle.play_connection.specs.Serving.{taken as taken_of, entry_of as e
 use crate::answering::answer_for;
 use crate::closing::closes;
 use crate::ended::SessionFull;
-use play_book::{Book, Event, Reply, StepFault};
 use call_facts::{Request, Target};
 use gw_base::{Bytes, Memory};
 use http_edge::spell_answer;
 use method_flow::Made;
+use play_book::{Book, Event, Reply, StepFault};
 use std::alloc::Global;
 
 /// A message that was answered: the bytes of its answer, and whether the connection closes behind it.

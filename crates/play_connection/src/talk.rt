@@ -7,10 +7,10 @@ ghost use Rattle.play_connection.specs.Talks.{Connects, edge_end as edge_end_of,
 use crate::ended::Ended;
 use crate::serving::serve;
 use crate::slice_source::SliceSource;
-use play_book::Book;
 use call_facts::Request;
 use gw_base::{Bytes, Memory};
 use http_edge::{Buffer, EdgeFault, Incoming, busy_answer, edge_answer, next_message};
+use play_book::Book;
 use std::alloc::Global;
 
 /// What a connection came to: all bytes that were written on it, and how it ended.

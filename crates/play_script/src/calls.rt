@@ -15,9 +15,9 @@ use crate::reading::record_in;
 use crate::records::{LineFault, Record};
 use crate::turns::{End, Said};
 use api_model::{Api, ApiCause, ApiFault};
-use play_book::{Book, Command, Event, Reply, StepFault};
 use call_facts::Vars;
 use gw_base::{Bytes, Memory, Seq, Shared, Text};
+use play_book::{Book, Command, Event, Reply, StepFault};
 use play_connection::SessionFull;
 use std::alloc::Global;
 

@@ -9,8 +9,8 @@ ghost use Rattle.play_script.specs.Play.{Turn, Output, IsTurn, IsFront, Plays, P
 use crate::calls::play_line;
 use crate::fields::first_line;
 use crate::turns::End;
-use play_book::{Book, Limits};
 use gw_base::{Sink, WriteStop, write_all};
+use play_book::{Book, Limits};
 use std::alloc::Global;
 
 fn status(end: End) -> u8

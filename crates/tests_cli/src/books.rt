@@ -1,8 +1,8 @@
 // The book itself: a stage keeps each variable once.
 use api_model::Api;
-use play_book::{Book, Command, Event, Limits, Reply};
 use call_facts::Vars;
 use gw_base::{Memory, Seq, Shared, Text};
+use play_book::{Book, Command, Event, Limits, Reply};
 use std::alloc::Global;
 use std::test::Fail;
 

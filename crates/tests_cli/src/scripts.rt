@@ -1,9 +1,9 @@
 ghost use Rattle.std.specs.Prelude.{◌<◌};
 
-use play_book::{Book, Event, Limits, Reply, StepFault};
 use call_facts::Kind;
 use gateway_cli::{MemOutside, play_within, run};
 use gw_base::{MemSink, MemSource, Sink, Source, Text};
+use play_book::{Book, Event, Limits, Reply, StepFault};
 use std::alloc::Global;
 use std::test::Fail;
 

@@ -8,7 +8,7 @@ ghost use Rattle.http_framing.specs.Stream.{Over, SameBytes, Takes};
 
 use crate::fault::EdgeFault;
 use crate::fill::{Filled, fill};
-use crate::held::ReadAhead;
+use crate::read_ahead::ReadAhead;
 use gw_base::{Bytes, Source};
 use std::alloc::Global;
 

@@ -8,7 +8,7 @@ ghost use Rattle.http_framing.specs.Faults.{CutBelow};
 
 use crate::fault::EdgeFault;
 use crate::fill::{Filled, fill, fill_line};
-use crate::held::ReadAhead;
+use crate::read_ahead::ReadAhead;
 use gw_base::Source;
 use httparse::{Status, parse_chunk_size};
 

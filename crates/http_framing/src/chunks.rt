@@ -10,7 +10,7 @@ ghost use Rattle.http_framing.specs.Faults.{CutBelow};
 use crate::body::{BODY_LIMIT, Body};
 use crate::chunk::{read_data, read_line};
 use crate::fault::EdgeFault;
-use crate::held::ReadAhead;
+use crate::read_ahead::ReadAhead;
 use crate::trailers::read_trailers;
 use gw_base::{Bytes, Source};
 use std::alloc::Global;

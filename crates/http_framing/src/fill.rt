@@ -4,7 +4,7 @@ ghost use Rattle.std.specs.List.{list_any};
 ghost use Rattle.gw_base.specs.Outside.{Rose};
 ghost use Rattle.http_framing.specs.Stream.{Fills, FillsOn, HasCome, Takes};
 
-use crate::held::ReadAhead;
+use crate::read_ahead::ReadAhead;
 use gw_base::Source;
 
 // The most bytes that are asked for at a time.

@@ -10,7 +10,7 @@ ghost use Rattle.http_framing.specs.Stream.{SameBytes, Takes};
 
 use crate::fault::EdgeFault;
 use crate::fill::{Filled, fill_line};
-use crate::held::ReadAhead;
+use crate::read_ahead::ReadAhead;
 use gw_base::Source;
 use httparse::Status;
 use httparse::spans::{HeaderSpan, ResponseSpans, parse_response};

@@ -9,7 +9,7 @@ ghost use Rattle.http_framing.specs.Stream.{SameBytes, Takes};
 
 use crate::fault::EdgeFault;
 use crate::fill::{Filled, fill_line};
-use crate::held::ReadAhead;
+use crate::read_ahead::ReadAhead;
 use crate::target::ends_in_target;
 use gw_base::Source;
 use httparse::Status;

@@ -9,7 +9,7 @@ ghost use Rattle.http_framing.specs.declared.trailers.Spot.TheVariants.{Fresh};
 
 use crate::fault::EdgeFault;
 use crate::fill::{Filled, fill_line};
-use crate::held::ReadAhead;
+use crate::read_ahead::ReadAhead;
 use gw_base::Source;
 
 // The most bytes of trailers.

@@ -13,144 +13,241 @@ pub const LIMITS: Limits = Limits {
     bytes: 1000,
 };
 
+/// An event of the tests: about the API `a` and its stage `s`, which points to deployment 1.
+#[derive(Clone, Copy)]
+enum Step {
+    Put,
+    Deploy,
+    Stage,
+    Shut,
+    Enter,
+    Leave,
+}
+
+/// What some steps came to.
+#[derive(Drop)]
+struct Played {
+    replies: String,
+    calls: u64,
+    not_kept: u64,
+    deployments: u64,
+    vars: Text,
+}
+
 pub fn text(alloc: Global, from: &str) -> Result<Text, Memory> {
     Ok(Text::of(String::from_str(alloc, from)?))
 }
 
-fn keeper(alloc: Global, tables: Tables, fails: &[u32]) -> Result<MemKeeper, Memory> {
-    Ok(MemKeeper::new(tables, Vec::from_slice(alloc, fails)?))
+fn definition(alloc: Global) -> Result<Shared<Api>, Memory> {
+    match Api::text(alloc, "Hi $input.body!") {
+        Ok(api) => Ok(Shared::new(alloc, api)?),
+        Err(_) => Err(Memory),
+    }
 }
 
-fn put_api(alloc: Global, api: &str) -> Result<Command, Memory> {
-    let Ok(definition) = Api::text(alloc, "Hi $input.body!") else {
-        return Err(Memory);
-    };
-    Ok(Command::PutApi {
-        api: text(alloc, api)?,
-        definition: Shared::new(alloc, definition)?,
-    })
-}
-
-fn deploy(alloc: Global, api: &str) -> Result<Command, Memory> {
-    Ok(Command::Deploy {
-        api: text(alloc, api)?,
-    })
-}
-
-fn put_stage(alloc: Global, api: &str, deployment: u32) -> Result<Command, Memory> {
+fn variables(alloc: Global) -> Result<Shared<Vars>, Memory> {
     let mut pairs = Seq::new(alloc);
     for pair in [("x", "1"), ("y", "a b"), ("x", "3")] {
         pairs.push((text(alloc, pair.0)?, text(alloc, pair.1)?))?;
     }
-    Ok(Command::PutStage {
-        api: text(alloc, api)?,
-        stage: text(alloc, "s")?,
-        deployment,
-        variables: Shared::new(alloc, Vars { pairs })?,
+    Ok(Shared::new(alloc, Vars { pairs })?)
+}
+
+fn put(alloc: Global) -> Result<Command, Memory> {
+    Ok(Command::PutApi {
+        api: text(alloc, "a")?,
+        definition: definition(alloc)?,
     })
+}
+
+fn deploy(alloc: Global) -> Result<Command, Memory> {
+    Ok(Command::Deploy {
+        api: text(alloc, "a")?,
+    })
+}
+
+fn stage(alloc: Global) -> Result<Command, Memory> {
+    Ok(Command::PutStage {
+        api: text(alloc, "a")?,
+        stage: text(alloc, "s")?,
+        deployment: 1,
+        variables: variables(alloc)?,
+    })
+}
+
+fn enter(alloc: Global) -> Result<Event, Memory> {
+    Ok(Event::Enter {
+        moment: 0,
+        word: 0,
+        api: text(alloc, "a")?,
+        stage: text(alloc, "s")?,
+    })
+}
+
+fn ask(command: Result<Command, Memory>) -> Result<Event, Memory> {
+    Ok(Event::Admin {
+        moment: 0,
+        command: command?,
+    })
+}
+
+fn event(alloc: Global, step: Step) -> Result<Event, Memory> {
+    match step {
+        Step::Put => ask(put(alloc)),
+        Step::Deploy => ask(deploy(alloc)),
+        Step::Stage => ask(stage(alloc)),
+        Step::Shut => ask(Ok(Command::Shutdown)),
+        Step::Enter => enter(alloc),
+        Step::Leave => Ok(Event::Leave {
+            status: 200,
+            cause: None,
+        }),
+    }
 }
 
 // What an event is replied, in a word.
 fn word(reply: &Reply) -> &'static str {
     match reply {
-        Reply::Entered(_) => "entered",
-        Reply::NoStage => "no stage",
-        Reply::Store => "store",
-        Reply::Left { closing: true } => "left closing",
-        Reply::Left { closing: false } => "left",
-        Reply::Done => "done",
-        Reply::Deployed(_) => "deployed",
-        Reply::Refused(_) => "refused",
+        Reply::Entered(_) => "entered ",
+        Reply::NoStage => "nostage ",
+        Reply::Store => "store ",
+        Reply::Left { closing: true } => "closing ",
+        Reply::Left { closing: false } => "left ",
+        Reply::Done => "done ",
+        Reply::Deployed(_) => "deployed ",
+        Reply::Refused(_) => "refused ",
     }
 }
 
-fn step(book: &mut Book<MemKeeper>, alloc: Global, event: Event) -> &'static str {
-    match book.step(alloc, 0, event) {
-        Ok(reply) => word(&reply),
-        Err(_) => "fault",
+fn take(book: &mut Book<MemKeeper>, alloc: Global, step: Step) -> Result<&'static str, Memory> {
+    match book.step(alloc, 0, event(alloc, step)?) {
+        Ok(reply) => Ok(word(&reply)),
+        Err(_) => Ok("fault "),
     }
 }
 
-fn command(book: &mut Book<MemKeeper>, alloc: Global, command: Command) -> &'static str {
-    step(book, alloc, Event::Admin { moment: 0, command })
+fn take_all(book: &mut Book<MemKeeper>, alloc: Global, steps: &[Step]) -> Result<String, Memory> {
+    let mut replies = String::new(alloc);
+    for step in steps {
+        replies.push_str(take(book, alloc, *step)?)?;
+    }
+    Ok(replies)
 }
 
-fn enter(book: &mut Book<MemKeeper>, alloc: Global) -> Result<&'static str, Memory> {
-    let event = Event::Enter {
-        moment: 0,
-        word: 0,
-        api: text(alloc, "a")?,
-        stage: text(alloc, "s")?,
+fn start(alloc: Global, tables: Tables, fails: &[u32]) -> Result<Book<MemKeeper>, StartFault> {
+    let Ok(fails) = Vec::from_slice(alloc, fails) else {
+        return Err(StartFault::Memory);
     };
-    Ok(step(book, alloc, event))
+    match Book::start(alloc, MemKeeper::new(tables, fails), LIMITS) {
+        Ok(book) => Ok(book),
+        Err((_, fault)) => Err(fault),
+    }
 }
 
 // The variables of the first stage, as they are kept.
-fn vars(book: &Book<MemKeeper>) -> &str {
-    match book.tables().stages().first() {
-        Some(row) => row.vars.as_str(),
-        None => "none",
+fn vars(alloc: Global, tables: &Tables) -> Result<Text, Memory> {
+    match tables.stages().first() {
+        Some(row) => row.vars.copy(alloc),
+        None => text(alloc, "none"),
     }
 }
 
-fn started(alloc: Global, fails: &[u32]) -> Result<Option<Book<MemKeeper>>, Memory> {
-    match Book::start(alloc, keeper(alloc, Tables::new(alloc), fails)?, LIMITS) {
-        Ok(book) => Ok(Some(book)),
-        Err(_) => Ok(None),
-    }
+fn describe(alloc: Global, replies: String, book: &Book<MemKeeper>) -> Result<Played, Memory> {
+    let counts = book.counts();
+    Ok(Played {
+        replies,
+        calls: counts.calls,
+        not_kept: counts.not_kept,
+        deployments: book.tables().count(Table::Deployments),
+        vars: vars(alloc, book.tables())?,
+    })
+}
+
+// What some steps come to over empty tables, where these calls of the keeper fail.
+fn play(alloc: Global, fails: &[u32], steps: &[Step]) -> Result<Played, Memory> {
+    let Ok(mut book) = start(alloc, Tables::new(alloc), fails) else {
+        return Err(Memory);
+    };
+    let replies = take_all(&mut book, alloc, steps)?;
+    describe(alloc, replies, &book)
+}
+
+// What more steps come to over the tables that some steps left.
+fn play_on(alloc: Global, steps: &[Step], more: &[Step]) -> Result<Played, Memory> {
+    let Ok(mut book) = start(alloc, Tables::new(alloc), &[]) else {
+        return Err(Memory);
+    };
+    take_all(&mut book, alloc, steps)?;
+    let (_, tables, _) = book.close();
+    let Ok(mut next) = start(alloc, tables, &[]) else {
+        return Err(Memory);
+    };
+    let replies = take_all(&mut next, alloc, more)?;
+    describe(alloc, replies, &next)
 }
 
 #[test]
 fn changes_are_kept(rt: HostRuntime) -> Result<(), Fail> {
-    let alloc = rt.alloc();
-    let Some(mut book) = started(alloc, &[])? else {
-        return Err(Fail::new("the book did not start"));
-    };
-    assert_eq!(rt; enter(&mut book, alloc)?, "no stage");
-    assert_eq!(rt; command(&mut book, alloc, put_api(alloc, "a")?), "done");
-    assert_eq!(rt; command(&mut book, alloc, deploy(alloc, "a")?), "deployed");
+    let steps = [
+        Step::Enter,
+        Step::Put,
+        Step::Deploy,
+        Step::Stage,
+        Step::Enter,
+    ];
+    let played = play(rt.alloc(), &[], &steps)?;
     assert_eq!(rt;
-        command(&mut book, alloc, put_stage(alloc, "a", 1)?),
-        "done"
+        played.replies.as_str(),
+        "nostage done deployed done entered "
     );
-    assert_eq!(rt; vars(&book), "y=a%20b x=3");
-    assert_eq!(rt; enter(&mut book, alloc)?, "entered");
-    assert_eq!(rt; book.counts().calls, 2);
-    assert_eq!(rt; book.counts().not_kept, 0);
-    let (keeper, tables, history) = book.close();
-    assert_eq!(rt; history.len(), 5);
-    assert_eq!(rt; tables.count(Table::Deployments), 1);
-    assert_eq!(rt; keeper.tables().count(Table::Stages), 1);
+    assert_eq!(rt; played.vars.as_str(), "y=a%20b x=3");
+    assert_eq!(rt; played.calls, 2);
+    assert_eq!(rt; played.not_kept, 0);
     Ok(())
 }
 
 #[test]
 fn a_lost_change_leaves_the_tables(rt: HostRuntime) -> Result<(), Fail> {
-    let alloc = rt.alloc();
-    let Some(mut book) = started(alloc, &[1, 5])? else {
-        return Err(Fail::new("the book did not start"));
-    };
-    assert_eq!(rt; command(&mut book, alloc, put_api(alloc, "a")?), "store");
-    assert_eq!(rt; command(&mut book, alloc, deploy(alloc, "a")?), "refused");
+    let steps = [
+        Step::Put,
+        Step::Deploy,
+        Step::Stage,
+        Step::Put,
+        Step::Deploy,
+    ];
+    let played = play(rt.alloc(), &[1, 5], &steps)?;
     assert_eq!(rt;
-        command(&mut book, alloc, put_stage(alloc, "a", 1)?),
-        "refused"
+        played.replies.as_str(),
+        "store refused refused done store "
     );
-    assert_eq!(rt; command(&mut book, alloc, put_api(alloc, "a")?), "done");
-    assert_eq!(rt; command(&mut book, alloc, deploy(alloc, "a")?), "store");
-    assert_eq!(rt; book.tables().count(Table::Deployments), 0);
-    assert_eq!(rt; command(&mut book, alloc, deploy(alloc, "a")?), "deployed");
-    assert_eq!(rt; book.counts().not_kept, 2);
+    assert_eq!(rt; played.deployments, 0);
+    assert_eq!(rt; played.not_kept, 2);
     Ok(())
 }
 
 #[test]
-fn a_load_that_fails_hands_the_keeper_back(rt: HostRuntime) -> Result<(), Fail> {
-    let alloc = rt.alloc();
-    let keeper = keeper(alloc, Tables::new(alloc), &[0])?;
-    match Book::start(alloc, keeper, LIMITS) {
+fn a_number_that_was_lost_is_given_again(rt: HostRuntime) -> Result<(), Fail> {
+    let steps = [
+        Step::Put,
+        Step::Deploy,
+        Step::Deploy,
+        Step::Stage,
+        Step::Enter,
+    ];
+    let played = play(rt.alloc(), &[3], &steps)?;
+    assert_eq!(rt;
+        played.replies.as_str(),
+        "done store deployed done entered "
+    );
+    assert_eq!(rt; played.deployments, 1);
+    Ok(())
+}
+
+#[test]
+fn a_load_that_fails_is_told(rt: HostRuntime) -> Result<(), Fail> {
+    match start(rt.alloc(), Tables::new(rt.alloc()), &[0]) {
         Ok(_) => Err(Fail::new("the book started")),
-        Err((_, fault)) => {
+        Err(fault) => {
             assert!(rt; fault == StartFault::StoreFault);
             Ok(())
         }
@@ -159,39 +256,17 @@ fn a_load_that_fails_hands_the_keeper_back(rt: HostRuntime) -> Result<(), Fail> 
 
 #[test]
 fn a_shutdown_closes(rt: HostRuntime) -> Result<(), Fail> {
-    let alloc = rt.alloc();
-    let Some(mut book) = started(alloc, &[])? else {
-        return Err(Fail::new("the book did not start"));
-    };
-    let leave = || Event::Leave {
-        status: 200,
-        cause: None,
-    };
-    assert_eq!(rt; step(&mut book, alloc, leave()), "left");
-    assert_eq!(rt; command(&mut book, alloc, Command::Shutdown), "done");
-    assert_eq!(rt; step(&mut book, alloc, leave()), "left closing");
+    let played = play(rt.alloc(), &[], &[Step::Leave, Step::Shut, Step::Leave])?;
+    assert_eq!(rt; played.replies.as_str(), "left done closing ");
     Ok(())
 }
 
 #[test]
 fn a_book_goes_on_over_what_another_left(rt: HostRuntime) -> Result<(), Fail> {
-    let alloc = rt.alloc();
-    let Some(mut book) = started(alloc, &[])? else {
-        return Err(Fail::new("the book did not start"));
-    };
-    assert_eq!(rt; command(&mut book, alloc, put_api(alloc, "a")?), "done");
-    assert_eq!(rt; command(&mut book, alloc, deploy(alloc, "a")?), "deployed");
-    assert_eq!(rt;
-        command(&mut book, alloc, put_stage(alloc, "a", 1)?),
-        "done"
-    );
-    let (keeper, _, _) = book.close();
-    let Ok(mut next) = Book::start(alloc, keeper, LIMITS) else {
-        return Err(Fail::new("the next book did not start"));
-    };
-    assert_eq!(rt; next.opening().count(Table::Apis), 1);
-    assert_eq!(rt; enter(&mut next, alloc)?, "entered");
-    assert_eq!(rt; command(&mut next, alloc, deploy(alloc, "a")?), "deployed");
-    assert_eq!(rt; next.tables().count(Table::Deployments), 2);
+    let before = [Step::Put, Step::Deploy, Step::Stage];
+    let played = play_on(rt.alloc(), &before, &[Step::Enter, Step::Deploy])?;
+    assert_eq!(rt; played.replies.as_str(), "entered deployed ");
+    assert_eq!(rt; played.deployments, 2);
+    assert_eq!(rt; played.vars.as_str(), "y=a%20b x=3");
     Ok(())
 }

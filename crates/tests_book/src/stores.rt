@@ -8,6 +8,16 @@ use keeper_core::{
 use std::alloc::Global;
 use std::test::Fail;
 
+/// A row of the tests: of the API `a`, or a key.
+#[derive(Clone, Copy)]
+enum Given {
+    Version(u64),
+    Api(&'static str, &'static str),
+    Deployment(u64),
+    Stage(u64, &'static str),
+    Key(&'static str, &'static str),
+}
+
 fn api(alloc: Global, name: &str, source: &str) -> Result<Row, Memory> {
     Ok(Row::Api(ApiRow {
         api: text(alloc, name)?,
@@ -45,53 +55,59 @@ fn key(alloc: Global, name: &str, value: &str) -> Result<Row, Memory> {
     }))
 }
 
-// The row that a book over these rows names.
-fn named(alloc: Global, rows: Vec<Row>) -> Result<Option<(Table, u64)>, Memory> {
-    let mut tables = Tables::new(alloc);
-    for row in rows {
-        tables.put(row)?;
-    }
-    let keeper = MemKeeper::new(tables, Vec::new(alloc));
-    match Book::start(alloc, keeper, LIMITS) {
-        Err((_, StartFault::BadStore(table, row))) => Ok(Some((table, row))),
-        _ => Ok(None),
+fn row(alloc: Global, given: Given) -> Result<Row, Memory> {
+    match given {
+        Given::Version(version) => Ok(Row::Meta(MetaRow { id: 0, version })),
+        Given::Api(name, source) => api(alloc, name, source),
+        Given::Deployment(number) => deployment(alloc, number),
+        Given::Stage(number, vars) => stage(alloc, number, vars),
+        Given::Key(name, value) => key(alloc, name, value),
     }
 }
 
-fn rows(alloc: Global, first: Row, more: Option<Row>) -> Result<Vec<Row>, Memory> {
-    let mut made = Vec::new(alloc);
-    made.push(first)?;
-    if let Some(row) = more {
-        made.push(row)?;
+fn tables(alloc: Global, rows: &[Given]) -> Result<Tables, Memory> {
+    let mut tables = Tables::new(alloc);
+    for given in rows {
+        tables.put(row(alloc, *given)?)?;
     }
-    Ok(made)
+    Ok(tables)
+}
+
+// The row that a book over these tables names.
+fn named_in(alloc: Global, tables: Tables) -> Option<(Table, u64)> {
+    match Book::start(alloc, MemKeeper::new(tables, Vec::new(alloc)), LIMITS) {
+        Err((_, StartFault::BadStore(table, row))) => Some((table, row)),
+        _ => None,
+    }
+}
+
+fn named(alloc: Global, rows: &[Given]) -> Result<Option<(Table, u64)>, Memory> {
+    Ok(named_in(alloc, tables(alloc, rows)?))
 }
 
 #[test]
 fn the_first_bad_row_is_named(rt: HostRuntime) -> Result<(), Fail> {
     let alloc = rt.alloc();
-    let second_alone = rows(alloc, api(alloc, "a", "x")?, Some(deployment(alloc, 2)?))?;
-    assert!(rt; named(alloc, second_alone)? == Some((Table::Deployments, 0)));
-    let first = rows(alloc, api(alloc, "a", "x")?, Some(deployment(alloc, 1)?))?;
-    assert!(rt; named(alloc, first)?.is_none());
-    let unread = rows(alloc, api(alloc, "a", "x")?, Some(api(alloc, "b", "${x")?))?;
-    assert!(rt; named(alloc, unread)? == Some((Table::Apis, 1)));
-    let version = Row::Meta(MetaRow { id: 0, version: 2 });
-    assert!(rt; named(alloc, rows(alloc, version, None)?)? == Some((Table::Meta, 0)));
+    let a = Given::Api("a", "x");
+    let second_alone = named(alloc, &[a, Given::Deployment(2)])?;
+    assert!(rt; second_alone == Some((Table::Deployments, 0)));
+    assert!(rt; named(alloc, &[a, Given::Deployment(1)])?.is_none());
+    let unread = named(alloc, &[a, Given::Api("b", "${x")])?;
+    assert!(rt; unread == Some((Table::Apis, 1)));
+    assert!(rt; named(alloc, &[Given::Version(2)])? == Some((Table::Meta, 0)));
     Ok(())
 }
 
 #[test]
 fn keys_and_stages_are_tested(rt: HostRuntime) -> Result<(), Fail> {
     let alloc = rt.alloc();
-    let same_value = rows(alloc, key(alloc, "k1", "v")?, Some(key(alloc, "k2", "v")?))?;
-    assert!(rt; named(alloc, same_value)? == Some((Table::Keys, 1)));
-    let no_deployment = rows(alloc, api(alloc, "a", "x")?, Some(stage(alloc, 1, "")?))?;
-    assert!(rt; named(alloc, no_deployment)? == Some((Table::Stages, 0)));
+    let same_value = named(alloc, &[Given::Key("k1", "v"), Given::Key("k2", "v")])?;
+    assert!(rt; same_value == Some((Table::Keys, 1)));
+    let a = Given::Api("a", "x");
+    assert!(rt; named(alloc, &[a, Given::Stage(1, "")])? == Some((Table::Stages, 0)));
     for vars in ["x=%2f", "x=1 x=2", "x"] {
-        let mut bad = rows(alloc, api(alloc, "a", "x")?, Some(deployment(alloc, 1)?))?;
-        bad.push(stage(alloc, 1, vars)?)?;
-        assert!(rt; named(alloc, bad)? == Some((Table::Stages, 0)));
+        let bad = named(alloc, &[a, Given::Deployment(1), Given::Stage(1, vars)])?;
+        assert!(rt; bad == Some((Table::Stages, 0)));
     }
     Ok(())
 }

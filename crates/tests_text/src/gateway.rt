@@ -68,33 +68,56 @@ fn facts(alloc: Global) -> Result<CallFacts, Memory> {
     })
 }
 
+// A call: its request, where that leads, and what is known of it.
+#[derive(Drop)]
+struct Call {
+    request: Request,
+    target: Target,
+    found: Found,
+    facts: CallFacts,
+}
+
+fn call_with(alloc: Global, facts: CallFacts) -> Result<Call, Memory> {
+    let request = request(alloc)?;
+    let target = Target::read(alloc, request.target.as_str())?;
+    let found = found(alloc)?;
+    Ok(Call {
+        request,
+        target,
+        found,
+        facts,
+    })
+}
+
+fn plain_call(alloc: Global) -> Result<Call, Memory> {
+    call_with(alloc, facts(alloc)?)
+}
+
 // The roots of a request whose moment is in range.
-fn asked<'a>(
-    alloc: Global,
-    request: &'a Request,
-    target: &'a Target,
-    found: &'a Found,
-    facts: &'a CallFacts,
-) -> Result<RequestRoots<'a>, Memory> {
-    if facts.at >= 4_102_444_800_000 {
+fn asked<'a>(alloc: Global, call: &'a Call) -> Result<RequestRoots<'a>, Memory> {
+    if call.facts.at >= 4_102_444_800_000 {
         return Err(Memory);
     }
-    RequestRoots::new(alloc, request, target, found, facts)
+    RequestRoots::new(alloc, &call.request, &call.target, &call.found, &call.facts)
 }
 
 // The roots of a reply to it.
 fn replied<'a>(
     alloc: Global,
-    request: &'a Request,
-    target: &'a Target,
-    found: &'a Found,
-    facts: &'a CallFacts,
+    call: &'a Call,
     reply: &'a WireReply,
 ) -> Result<ResponseRoots<'a>, Memory> {
-    if facts.at >= 4_102_444_800_000 {
+    if call.facts.at >= 4_102_444_800_000 {
         return Err(Memory);
     }
-    ResponseRoots::new(alloc, request, target, found, facts, reply)
+    ResponseRoots::new(
+        alloc,
+        &call.request,
+        &call.target,
+        &call.found,
+        &call.facts,
+        reply,
+    )
 }
 
 // The text of a template over these roots.
@@ -106,6 +129,17 @@ fn printed<R: Roots>(alloc: Global, template: &str, roots: &mut R) -> Result<Tex
         Ok(rendered) => Ok(rendered.text),
         Err(_) => Err(Memory),
     }
+}
+
+// What a template of a request prints.
+fn asked_text(alloc: Global, call: &Call, template: &str) -> Result<Text, Memory> {
+    let mut roots = asked(alloc, call)?;
+    printed(alloc, template, &mut roots)
+}
+
+fn asked_of_plain(alloc: Global, template: &str) -> Result<Text, Memory> {
+    let call = plain_call(alloc)?;
+    asked_text(alloc, &call, template)
 }
 
 const PRINTED: [(&str, &str); 19] = [
@@ -165,95 +199,142 @@ const PRINTED: [(&str, &str); 19] = [
 
 #[test]
 fn a_request_template_has_the_values_of_the_table(rt: HostRuntime) -> Result<(), Fail> {
-    let alloc = rt.alloc();
-    let request = request(alloc)?;
-    let target = Target::read(alloc, request.target.as_str())?;
-    let found = found(alloc)?;
-    let facts = facts(alloc)?;
     for (template, prints) in &PRINTED {
-        let mut roots = asked(alloc, &request, &target, &found, &facts)?;
-        let made = printed(alloc, template, &mut roots)?;
+        let made = asked_of_plain(rt.alloc(), template)?;
         assert_eq!(rt; made.as_str(), *prints, "at {template}");
     }
     Ok(())
 }
 
-fn header_of(changes: &Overrides, i: usize) -> (&str, &str) {
-    match changes.headers.as_slice().get(i) {
-        Some(pair) => (pair.0.as_str(), pair.1.as_str()),
-        None => ("", ""),
+const WRITES: &str =
+    "#set($context.requestOverride.header.Accept = 'a')#set($context.requestOverride.header.b = 2)#set($context.requestOverride.header.Accept = [1, 2])#set($context.stage = 'w')$context.stage";
+
+// What is printed, and behind it each header that is written.
+fn with_headers(alloc: Global, printed: &Text, changes: &Overrides) -> Result<String, Memory> {
+    let mut told = String::from_str(alloc, printed.as_str())?;
+    for header in changes.headers.as_slice() {
+        told.push_str("|")?;
+        told.push_str(header.0.as_str())?;
+        told.push_str(": ")?;
+        told.push_str(header.1.as_str())?;
     }
+    Ok(told)
+}
+
+fn changes(alloc: Global, roots: RequestRoots<'_>) -> Result<Overrides, Memory> {
+    roots.overrides(alloc)
+}
+
+fn written(alloc: Global, roots: RequestRoots<'_>, template: &str) -> Result<String, Memory> {
+    let mut roots = roots;
+    let made = printed(alloc, template, &mut roots)?;
+    let changes = changes(alloc, roots)?;
+    with_headers(alloc, &made, &changes)
+}
+
+// What a template of a request prints, and the headers that it writes.
+fn asked_and_written(alloc: Global, template: &str) -> Result<String, Memory> {
+    let call = plain_call(alloc)?;
+    let roots = asked(alloc, &call)?;
+    written(alloc, roots, template)
 }
 
 #[test]
-fn the_last_write_of_a_name_stands_in_the_place_of_its_first(rt: HostRuntime) {
-    let alloc = rt.alloc();
-    let request = request(alloc).expect(&rt, "memory");
-    let target = Target::read(alloc, request.target.as_str()).expect(&rt, "memory");
-    let found = found(alloc).expect(&rt, "memory");
-    let facts = facts(alloc).expect(&rt, "memory");
-    let mut roots = asked(alloc, &request, &target, &found, &facts).expect(&rt, "memory");
-    let template =
-        "#set($context.requestOverride.header.Accept = 'a')#set($context.requestOverride.header.b = 2)#set($context.requestOverride.header.Accept = [1, 2])#set($context.stage = 'w')$context.stage";
-    let made = printed(alloc, template, &mut roots).expect(&rt, "rendering");
-    assert_eq!(rt; made.as_str(), "v1");
-    let changes = roots.overrides(alloc).expect(&rt, "memory");
-    assert_eq!(rt; header_of(&changes, 0), ("accept", "[1, 2]"));
-    assert_eq!(rt; header_of(&changes, 1), ("b", "2"));
-    assert_eq!(rt; changes.headers.as_slice().len(), 2);
+fn the_last_write_of_a_name_stands_in_the_place_of_its_first(rt: HostRuntime) -> Result<(), Fail> {
+    let told = asked_and_written(rt.alloc(), WRITES)?;
+    assert_eq!(rt; told.as_str(), "v1|accept: [1, 2]|b: 2");
+    Ok(())
 }
 
-#[test]
-fn a_response_template_sees_the_reply(rt: HostRuntime) {
-    let alloc = rt.alloc();
-    let request = request(alloc).expect(&rt, "memory");
-    let target = Target::read(alloc, request.target.as_str()).expect(&rt, "memory");
-    let found = found(alloc).expect(&rt, "memory");
-    let facts = facts(alloc).expect(&rt, "memory");
-    let reply = WireReply {
+fn reply(alloc: Global) -> Result<WireReply, Memory> {
+    Ok(WireReply {
         status: 200,
-        headers: pairs(alloc, &[]).expect(&rt, "memory"),
-        body: bytes(alloc, "{\"id\":55}").expect(&rt, "memory"),
-    };
-    let mut roots = replied(alloc, &request, &target, &found, &facts, &reply).expect(&rt, "memory");
-    let template =
-        "$input.json('$.id') $input.params('x')#set($context.responseOverride.status = 404)";
-    let made = printed(alloc, template, &mut roots).expect(&rt, "rendering");
-    assert_eq!(rt; made.as_str(), "55 1");
-    let changes = roots.overrides(alloc).expect(&rt, "memory");
-    match &changes.status {
-        Some(status) => assert_eq!(rt; status.as_str(), "404"),
-        None => assert!(rt; false),
+        headers: pairs(alloc, &[])?,
+        body: bytes(alloc, "{\"id\":55}")?,
+    })
+}
+
+// What is printed, and behind it the status that is written.
+fn with_status(alloc: Global, printed: &Text, changes: &Overrides) -> Result<String, Memory> {
+    let mut told = String::from_str(alloc, printed.as_str())?;
+    if let Some(status) = &changes.status {
+        told.push_str("|")?;
+        told.push_str(status.as_str())?;
     }
+    Ok(told)
+}
+
+fn changes_back(alloc: Global, roots: ResponseRoots<'_>) -> Result<Overrides, Memory> {
+    roots.overrides(alloc)
+}
+
+fn written_back(alloc: Global, roots: ResponseRoots<'_>, template: &str) -> Result<String, Memory> {
+    let mut roots = roots;
+    let made = printed(alloc, template, &mut roots)?;
+    let changes = changes_back(alloc, roots)?;
+    with_status(alloc, &made, &changes)
+}
+
+fn replied_on(
+    alloc: Global,
+    call: &Call,
+    reply: &WireReply,
+    template: &str,
+) -> Result<String, Memory> {
+    let roots = replied(alloc, call, reply)?;
+    written_back(alloc, roots, template)
+}
+
+// What a template of a reply prints, and the status that it writes.
+fn replied_and_written(alloc: Global, template: &str) -> Result<String, Memory> {
+    let call = plain_call(alloc)?;
+    let reply = reply(alloc)?;
+    replied_on(alloc, &call, &reply, template)
 }
 
 #[test]
-fn the_caller_and_the_refusal_have_values(rt: HostRuntime) {
-    let alloc = rt.alloc();
-    let request = request(alloc).expect(&rt, "memory");
-    let target = Target::read(alloc, request.target.as_str()).expect(&rt, "memory");
-    let found = found(alloc).expect(&rt, "memory");
-    let mut facts = facts(alloc).expect(&rt, "memory");
+fn a_response_template_sees_the_reply(rt: HostRuntime) -> Result<(), Fail> {
+    let told = replied_and_written(
+        rt.alloc(),
+        "$input.json('$.id') $input.params('x')#set($context.responseOverride.status = 404)",
+    )?;
+    assert_eq!(rt; told.as_str(), "55 1|404");
+    Ok(())
+}
+
+fn policy(alloc: Global) -> Result<Policy, Memory> {
+    Ok(Policy {
+        principal: text(alloc, "u7")?,
+        statements: Seq::new(alloc),
+        context: pairs(alloc, &[("team", "red"), ("principalId", "no")])?,
+    })
+}
+
+// A call with a key, a policy and a refusal.
+fn refused_call(alloc: Global) -> Result<Call, Memory> {
+    let policy = Shared::new(alloc, policy(alloc)?)?;
+    let error = text(alloc, "Too \"Many\"\n\u{1}/é")?;
+    let mut facts = facts(alloc)?;
     facts.key = Some(Name::of("k1"));
-    facts.policy = Some(Shared::new(
-        alloc,
-        Policy {
-            principal: text(alloc, "u7").expect(&rt, "memory"),
-            statements: Seq::new(alloc),
-            context: pairs(alloc, &[("team", "red"), ("principalId", "no")]).expect(&rt, "memory"),
-        },
-    )
-    .expect(&rt, "memory"));
-    facts.error = Some((
-        Kind::Throttled,
-        text(alloc, "Too \"Many\"\n\u{1}/é").expect(&rt, "memory"),
-    ));
-    let mut roots = asked(alloc, &request, &target, &found, &facts).expect(&rt, "memory");
-    let template =
-        "$context.identity.apiKeyId $context.authorizer.principalId $context.authorizer.team$!context.authorizer.none $context.error.responseType $context.error.messageString";
-    let made = printed(alloc, template, &mut roots).expect(&rt, "rendering");
+    facts.policy = Some(policy);
+    facts.error = Some((Kind::Throttled, error));
+    call_with(alloc, facts)
+}
+
+fn asked_of_refused(alloc: Global, template: &str) -> Result<Text, Memory> {
+    let call = refused_call(alloc)?;
+    asked_text(alloc, &call, template)
+}
+
+#[test]
+fn the_caller_and_the_refusal_have_values(rt: HostRuntime) -> Result<(), Fail> {
+    let made = asked_of_refused(
+        rt.alloc(),
+        "$context.identity.apiKeyId $context.authorizer.principalId $context.authorizer.team$!context.authorizer.none $context.error.responseType $context.error.messageString",
+    )?;
     assert_eq!(rt;
         made.as_str(),
         "k1 u7 red THROTTLED \"Too \\\"Many\\\"\\n\\u0001/é\""
     );
+    Ok(())
 }

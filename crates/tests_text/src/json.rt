@@ -114,6 +114,10 @@ const ITEMS: [&str; 5] = [
     "Text \"x\\n\"",
 ];
 
+fn parts(alloc: Global) -> Result<Doc, Fail> {
+    Ok(Json::read(alloc, PARTS.as_bytes())?)
+}
+
 // The kind and the source text of an item of the list.
 fn item_told(alloc: Global, doc: &Doc, i: u32) -> Result<String, Fail> {
     let list = doc.member(doc.root(), "ab").ok_or("no member")?;
@@ -125,7 +129,7 @@ fn item_told(alloc: Global, doc: &Doc, i: u32) -> Result<String, Fail> {
 
 #[test]
 fn items_have_their_kinds_and_spans(rt: HostRuntime) -> Result<(), Fail> {
-    let doc = Json::read(rt.alloc(), PARTS.as_bytes())?;
+    let doc = parts(rt.alloc())?;
     for i in 0..5 {
         let got = item_told(rt.alloc(), &doc, i)?;
         assert_eq!(rt; got.as_str(), ITEMS[i as usize]);
@@ -133,30 +137,49 @@ fn items_have_their_kinds_and_spans(rt: HostRuntime) -> Result<(), Fail> {
     Ok(())
 }
 
+// The kind of a member of an object, by its name.
+fn member_kind(doc: &Doc, name: &str) -> Option<Kind> {
+    let value = doc.member(doc.root(), name)?;
+    Some(doc.kind(value))
+}
+
+// The text of an item of the list, where it is one.
+fn item_text(doc: &Doc, i: u32) -> Option<&str> {
+    let list = doc.member(doc.root(), "ab")?;
+    let item = doc.item(list, i)?;
+    doc.text(item)
+}
+
+// The kind of an item of the list.
+fn item_kind(doc: &Doc, i: u32) -> Option<Kind> {
+    let list = doc.member(doc.root(), "ab")?;
+    let item = doc.item(list, i)?;
+    Some(doc.kind(item))
+}
+
 #[test]
 fn a_list_has_no_item_past_its_last(rt: HostRuntime) -> Result<(), Fail> {
-    let doc = Json::read(rt.alloc(), PARTS.as_bytes())?;
-    let list = doc.member(doc.root(), "ab").ok_or("no member")?;
-    assert_eq!(rt; doc.kind(list), Kind::List(5));
-    assert!(rt; doc.item(list, 5).is_none());
-    let text = doc.item(list, 4).ok_or("no item")?;
-    assert_eq!(rt; doc.text(text), Some("x\n"));
+    let doc = parts(rt.alloc())?;
+    assert_eq!(rt; member_kind(&doc, "ab"), Some(Kind::List(5)));
+    assert_eq!(rt; item_kind(&doc, 5), None);
+    assert_eq!(rt; item_text(&doc, 4), Some("x\n"));
     Ok(())
+}
+
+// The name and the kind of an entry of the object.
+fn entry_told(doc: &Doc, i: u32) -> Option<(&str, Kind)> {
+    match doc.entry(doc.root(), i) {
+        Some((name, value)) => Some((name, doc.kind(value))),
+        None => None,
+    }
 }
 
 #[test]
 fn members_are_found(rt: HostRuntime) -> Result<(), Fail> {
-    let doc = Json::read(rt.alloc(), PARTS.as_bytes())?;
-    let root = doc.root();
-    assert_eq!(rt; doc.kind(root), Kind::Object(3));
-    assert!(rt; doc.entry(root, 3).is_none());
-    match doc.entry(root, 1) {
-        Some((name, value)) => {
-            assert_eq!(rt; name, "t");
-            assert_eq!(rt; doc.kind(value), Kind::Bool(true));
-        }
-        None => return Err(Fail::from("no entry")),
-    }
-    assert!(rt; doc.member(root, "z").is_none());
+    let doc = parts(rt.alloc())?;
+    assert_eq!(rt; doc.kind(doc.root()), Kind::Object(3));
+    assert_eq!(rt; entry_told(&doc, 3), None);
+    assert_eq!(rt; entry_told(&doc, 1), Some(("t", Kind::Bool(true))));
+    assert_eq!(rt; member_kind(&doc, "z"), None);
     Ok(())
 }

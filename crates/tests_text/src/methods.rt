@@ -2,6 +2,7 @@
 use std::alloc::Global;
 use std::process::Abort;
 use std::rc::RcStr;
+use std::test::Fail;
 use vtl_methods::call;
 use vtl_values::{Lack, ListMaker, MapMaker, Value, print};
 
@@ -33,12 +34,49 @@ fn printed(alloc: Global, value: &Value) -> Result<String, Lack> {
     Ok(text)
 }
 
-fn answer(alloc: Global, receiver: &Value, row: Called) -> Result<String, Lack> {
-    let mut arguments = Vec::new(alloc);
-    for argument in row.arguments {
-        arguments.push(operand(alloc, *argument)?)?;
+fn operands(alloc: Global, given: &[Given]) -> Result<Vec<Value>, Lack> {
+    let mut made = Vec::new(alloc);
+    for operand_given in given {
+        made.push(operand(alloc, *operand_given)?)?;
     }
-    let (value, _) = call(alloc, receiver, row.name, &arguments, 1000)?;
+    Ok(made)
+}
+
+// What a call gives, and how many bytes of text it compares or makes.
+fn answered(
+    alloc: Global,
+    receiver: &Value,
+    name: &str,
+    given: &[Given],
+    room: u64,
+) -> Result<(Value, u64), Lack> {
+    let arguments = operands(alloc, given)?;
+    call(alloc, receiver, name, &arguments, room)
+}
+
+fn answer(alloc: Global, receiver: &Value, row: Called) -> Result<String, Lack> {
+    let (value, _) = answered(alloc, receiver, row.name, row.arguments, 1000)?;
+    printed(alloc, &value)
+}
+
+// The bytes of a call; none where it has no room for them.
+fn cost(
+    alloc: Global,
+    receiver: &Value,
+    name: &str,
+    given: &[Given],
+    room: u64,
+) -> Result<Option<u64>, Lack> {
+    match answered(alloc, receiver, name, given, room) {
+        Ok((_, bytes)) => Ok(Some(bytes)),
+        Err(Lack::Room) => Ok(None),
+        Err(Lack::Memory) => Err(Lack::Memory),
+    }
+}
+
+// The same without arguments, printed.
+fn plain_answer(alloc: Global, receiver: &Value, name: &str, room: u64) -> Result<String, Lack> {
+    let (value, _) = answered(alloc, receiver, name, &[], room)?;
     printed(alloc, &value)
 }
 
@@ -318,53 +356,60 @@ fn methods_of_a_map(rt: HostRuntime) {
 }
 
 #[test]
-fn null_has_no_methods(rt: HostRuntime) {
-    let (value, _) = call(rt.alloc(), &Value::null(), "toString", &[], 0).expect(&rt, "memory");
-    assert!(rt; value.is_null());
+fn null_has_no_methods(rt: HostRuntime) -> Result<(), Fail> {
+    let told = plain_answer(rt.alloc(), &Value::null(), "toString", 0)?;
+    assert_eq!(rt; told.as_str(), "null");
+    Ok(())
+}
+
+const SOUGHT: [Given; 1] = [Given::Text("b")];
+
+#[test]
+fn compared_texts_are_counted(rt: HostRuntime) -> Result<(), Fail> {
+    let items = list(rt.alloc())?;
+    for (room, bytes) in [(4, Some(4)), (3, None)] {
+        let got = cost(rt.alloc(), &items, "contains", &SOUGHT, room)?;
+        assert_eq!(rt; got, bytes);
+    }
+    Ok(())
 }
 
 #[test]
-fn compared_texts_are_counted(rt: HostRuntime) {
-    let alloc = rt.alloc();
-    let items = list(alloc).expect(&rt, "memory");
-    let sought = [operand(alloc, Given::Text("b")).expect(&rt, "memory")];
-    let (_, bytes) = call(alloc, &items, "contains", &sought, 4).expect(&rt, "room");
-    assert_eq!(rt; bytes, 4);
-    assert!(rt; matches!(call(alloc, &items, "contains", &sought, 3), Err(Lack::Room)));
+fn the_texts_of_entries_are_counted(rt: HostRuntime) -> Result<(), Fail> {
+    let entries = map(rt.alloc())?;
+    for (room, bytes) in [(100, Some(19)), (18, None)] {
+        let got = cost(rt.alloc(), &entries, "entrySet", &[], room)?;
+        assert_eq!(rt; got, bytes);
+    }
+    Ok(())
+}
+
+// A range of all numbers.
+fn all_numbers() -> Value {
+    Value::range(i64::MIN, i64::MAX)
 }
 
 #[test]
-fn the_texts_of_entries_are_counted(rt: HostRuntime) {
-    let alloc = rt.alloc();
-    let entries = map(alloc).expect(&rt, "memory");
-    let (_, bytes) = call(alloc, &entries, "entrySet", &[], 100).expect(&rt, "room");
-    assert_eq!(rt; bytes, 19);
-    assert!(rt; matches!(call(alloc, &entries, "entrySet", &[], 18), Err(Lack::Room)));
+fn a_range_of_all_numbers_is_never_spread_out(rt: HostRuntime) -> Result<(), Fail> {
+    let all = all_numbers();
+    assert_eq!(rt; cost(rt.alloc(), &all, "contains", &SOUGHT, 1000)?, None);
+    assert_eq!(rt; cost(rt.alloc(), &all, "toString", &[], 1000)?, None);
+    let size = plain_answer(rt.alloc(), &all, "size", 0)?;
+    assert_eq!(rt; size.as_str(), "null");
+    Ok(())
+}
+
+// Whether the last of all numbers is found among them, and at which cost.
+fn last_found(alloc: Global) -> Result<(bool, u64), Lack> {
+    let last = [Given::Whole(i64::MAX)];
+    let (found, bytes) = answered(alloc, &all_numbers(), "contains", &last, 0)?;
+    Ok((found.is_true(), bytes))
 }
 
 #[test]
-fn a_range_of_all_numbers_is_never_spread_out(rt: HostRuntime) {
-    let alloc = rt.alloc();
-    let all = Value::range(i64::MIN, i64::MAX);
-    let sought = [operand(alloc, Given::Text("b")).expect(&rt, "memory")];
-    assert!(rt;
-        matches!(
-            call(alloc, &all, "contains", &sought, 1000),
-            Err(Lack::Room)
-        )
-    );
-    assert!(rt; matches!(call(alloc, &all, "toString", &[], 1000), Err(Lack::Room)));
-    let (size, _) = call(alloc, &all, "size", &[], 0).expect(&rt, "room");
-    assert!(rt; size.is_null());
-}
-
-#[test]
-fn a_number_is_sought_in_a_range_at_no_cost(rt: HostRuntime) {
-    let all = Value::range(i64::MIN, i64::MAX);
-    let last = [Value::whole(i64::MAX)];
-    let (found, bytes) = call(rt.alloc(), &all, "contains", &last, 0).expect(&rt, "room");
-    assert!(rt; found.is_true());
-    assert_eq!(rt; bytes, 0);
+fn a_number_is_sought_in_a_range_at_no_cost(rt: HostRuntime) -> Result<(), Fail> {
+    assert_eq!(rt; last_found(rt.alloc())?, (true, 0));
+    Ok(())
 }
 
 // A map in a map in a map ..
@@ -379,13 +424,19 @@ fn nested(alloc: Global, levels: u32) -> Result<Value, Lack> {
     Ok(value)
 }
 
+// How deep the set of entries is of a map so deep; none where there is no set.
+fn depth_of_set(alloc: Global, levels: u32) -> Result<Option<u32>, Lack> {
+    let entries = nested(alloc, levels)?;
+    let (set, _) = answered(alloc, &entries, "entrySet", &[], 1000)?;
+    if set.is_null() {
+        return Ok(None);
+    }
+    Ok(Some(set.depth()))
+}
+
 #[test]
-fn a_set_of_entries_is_at_most_64_deep(rt: HostRuntime) {
-    let alloc = rt.alloc();
-    let deepest = nested(alloc, 63).expect(&rt, "memory");
-    let (set, _) = call(alloc, &deepest, "entrySet", &[], 1000).expect(&rt, "room");
-    assert_eq!(rt; set.depth(), 64);
-    let too_deep = nested(alloc, 64).expect(&rt, "memory");
-    let (set, _) = call(alloc, &too_deep, "entrySet", &[], 1000).expect(&rt, "room");
-    assert!(rt; set.is_null());
+fn a_set_of_entries_is_at_most_64_deep(rt: HostRuntime) -> Result<(), Fail> {
+    assert_eq!(rt; depth_of_set(rt.alloc(), 63)?, Some(64));
+    assert_eq!(rt; depth_of_set(rt.alloc(), 64)?, None);
+    Ok(())
 }

@@ -87,9 +87,13 @@ fn selected(alloc: Global, path: &str, doc: &Doc) -> Result<String, Fail> {
     }
 }
 
+fn document(alloc: Global) -> Result<Doc, Fail> {
+    Ok(Json::read(alloc, DOCUMENT.as_bytes())?)
+}
+
 #[test]
 fn paths_select_nodes_or_are_refused(rt: HostRuntime) -> Result<(), Fail> {
-    let doc = Json::read(rt.alloc(), DOCUMENT.as_bytes())?;
+    let doc = document(rt.alloc())?;
     for (path, want) in &PATHS {
         let got = selected(rt.alloc(), path, &doc)?;
         assert_eq!(rt; got.as_str(), *want, "at {path}");
@@ -103,10 +107,14 @@ fn crosses_threads<T: Send + Sync>(value: T) -> T {
     value
 }
 
+fn read(alloc: Global, path: &str) -> Result<Path, PathFault> {
+    Path::read(alloc, path)
+}
+
 #[test]
 fn a_path_crosses_threads(rt: HostRuntime) -> Result<(), Fail> {
-    let path = crosses_threads(Path::read(rt.alloc(), "$.a[*]").ok());
+    let path = crosses_threads(read(rt.alloc(), "$.a[*]").ok());
     assert!(rt; path.is_some_and(|path| path.starred()));
-    assert!(rt; Path::read(rt.alloc(), "$.").err() == Some(PathFault::BadPath(2)));
+    assert!(rt; read(rt.alloc(), "$.").err() == Some(PathFault::BadPath(2)));
     Ok(())
 }

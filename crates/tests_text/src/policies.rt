@@ -104,39 +104,61 @@ fn replies_are_policies_or_refused(rt: HostRuntime) -> Result<(), Fail> {
     Ok(())
 }
 
-#[test]
-fn a_reply_has_65536_bytes_at_most(rt: HostRuntime) -> Result<(), Fail> {
-    let mut long = String::new(rt.alloc());
-    for _ in 0..LIMIT {
+// So many spaces, and the rest behind them.
+fn spaced(alloc: Global, spaces: usize, rest: &str) -> Result<String, Fail> {
+    let mut long = String::new(alloc);
+    for _ in 0..spaces {
         long.push(' ')?;
     }
-    let fault = AuthReply::read(rt.alloc(), long.as_bytes()).err();
-    assert!(rt; fault == Some(PolicyFault::Malformed(65_536)));
-    long.push('}')?;
-    let fault = AuthReply::read(rt.alloc(), long.as_bytes()).err();
-    assert!(rt; fault == Some(PolicyFault::Malformed(65_536)));
+    long.push_str(rest)?;
+    Ok(long)
+}
+
+fn fault_of(alloc: Global, reply: &str) -> Option<PolicyFault> {
+    AuthReply::read(alloc, reply.as_bytes()).err()
+}
+
+#[test]
+fn a_reply_has_65536_bytes_at_most(rt: HostRuntime) -> Result<(), Fail> {
+    for rest in ["", "}"] {
+        let long = spaced(rt.alloc(), LIMIT, rest)?;
+        let fault = fault_of(rt.alloc(), long.as_str());
+        assert!(rt; fault == Some(PolicyFault::Malformed(65_536)));
+    }
     Ok(())
 }
 
 const ALLOW_THEN_DENY: &str =
     r#"{"principalId":"p","policyDocument":{"Statement":[{"Effect":"Allow","Action":"*","Resource":"*"},{"Effect":"Deny","Action":"execute-api:Invoke","Resource":"*/POST/*"}]}}"#;
 
+const NOTHING: &str = r#"{"principalId":"p","policyDocument":{"Statement":[]}}"#;
+
+// A reply, what is asked for, and what the reply's policy decides.
+const DECIDED: [(&str, &str, Decision); 3] = [
+    (
+        ALLOW_THEN_DENY,
+        "arn:aws:execute-api:local:000000000000:a/s/POST/",
+        Decision::Deny(1),
+    ),
+    (
+        ALLOW_THEN_DENY,
+        "arn:aws:execute-api:local:000000000000:a/s/GET/",
+        Decision::Allow(0),
+    ),
+    (NOTHING, "a", Decision::NoAllow),
+];
+
+fn decided(alloc: Global, reply: &str, arn: &str) -> Result<Decision, Fail> {
+    let policy = AuthReply::read(alloc, reply.as_bytes())?;
+    Ok(decide(&policy, arn))
+}
+
 #[test]
 fn policies_decide(rt: HostRuntime) -> Result<(), Fail> {
-    let policy = AuthReply::read(rt.alloc(), ALLOW_THEN_DENY.as_bytes())?;
-    assert_eq!(rt;
-        decide(&policy, "arn:aws:execute-api:local:000000000000:a/s/POST/"),
-        Decision::Deny(1)
-    );
-    assert_eq!(rt;
-        decide(&policy, "arn:aws:execute-api:local:000000000000:a/s/GET/"),
-        Decision::Allow(0)
-    );
-    let nothing = AuthReply::read(
-        rt.alloc(),
-        br#"{"principalId":"p","policyDocument":{"Statement":[]}}"#,
-    )?;
-    assert_eq!(rt; decide(&nothing, "a"), Decision::NoAllow);
+    for (reply, arn, decision) in &DECIDED {
+        let got = decided(rt.alloc(), reply, arn)?;
+        assert_eq!(rt; got, *decision, "at {arn}");
+    }
     Ok(())
 }
 
@@ -145,8 +167,7 @@ fn allowed(alloc: Global, action: &str, resource: &str, arn: &str) -> Result<boo
     let reply = format!(in alloc;
         "{{\"principalId\":\"p\",\"policyDocument\":{{\"Statement\":{{\"Effect\":\"Allow\",\"Action\":\"{action}\",\"Resource\":\"{resource}\"}}}}}}"
     )?;
-    let policy = AuthReply::read(alloc, reply.as_bytes())?;
-    Ok(decide(&policy, arn) == Decision::Allow(0))
+    Ok(decided(alloc, reply.as_str(), arn)? == Decision::Allow(0))
 }
 
 const COVERED: [(&str, &str, &str, bool); 15] = [
@@ -176,12 +197,18 @@ fn patterns_cover_actions_and_resources(rt: HostRuntime) -> Result<(), Fail> {
     Ok(())
 }
 
-#[test]
-fn many_stars_are_tried_at_once(rt: HostRuntime) -> Result<(), Fail> {
-    let mut letters = String::new(rt.alloc());
-    for _ in 0..1000 {
+// The letter a, so often.
+fn letters(alloc: Global, count: usize) -> Result<String, Fail> {
+    let mut letters = String::new(alloc);
+    for _ in 0..count {
         letters.push('a')?;
     }
+    Ok(letters)
+}
+
+#[test]
+fn many_stars_are_tried_at_once(rt: HostRuntime) -> Result<(), Fail> {
+    let letters = letters(rt.alloc(), 1000)?;
     assert!(rt; !allowed(rt.alloc(), "*", "a*a*a*a*b", letters.as_str())?);
     assert!(rt; allowed(rt.alloc(), "*", "a*a*a*a*a", letters.as_str())?);
     Ok(())
@@ -191,10 +218,13 @@ fn crosses_threads<T: Send + Sync>(value: T) -> T {
     value
 }
 
+fn policy(alloc: Global, reply: &str) -> Option<Policy> {
+    AuthReply::read(alloc, reply.as_bytes()).ok()
+}
+
 #[test]
 fn a_policy_crosses_threads(rt: HostRuntime) -> Result<(), Fail> {
-    let reply = br#"{"principalId":"p","policyDocument":{"Statement":[]}}"#;
-    let policy = crosses_threads(AuthReply::read(rt.alloc(), reply).ok());
+    let policy = crosses_threads(policy(rt.alloc(), NOTHING));
     assert!(rt; policy.is_some_and(|policy| policy.principal.as_str() == "p"));
     Ok(())
 }

@@ -16,37 +16,77 @@ const PARTS: [(&str, i64, i64, Option<&str>); 6] = [
     ("", 0, 0, Some("")),
 ];
 
+// A text, a place, and what stands behind it.
+const TAILS: [(&str, i64, Option<&str>); 3] = [
+    ("éÀ𝄞", 2, Some("𝄞")),
+    ("a,b,,c,,", 8, Some("")),
+    ("a,b", 4, None),
+];
+
 #[test]
 fn places_count_characters(rt: HostRuntime) {
     for (text, from, to, part) in &PARTS {
         assert_eq!(rt; substring(text, *from, *to), *part);
     }
-    assert_eq!(rt; substring_from("éÀ𝄞", 2), Some("𝄞"));
-    assert_eq!(rt; substring_from("a,b,,c,,", 8), Some(""));
-    assert_eq!(rt; substring_from("a,b", 4), None);
+    for (text, from, tail) in &TAILS {
+        assert_eq!(rt; substring_from(text, *from), *tail);
+    }
 }
+
+const LENGTHS: [(&str, usize); 2] = [("éÀ𝄞", 3), ("a,b", 3)];
+
+// A text, a part of it, and where that stands first.
+const PLACES: [(&str, &str, Option<usize>); 3] = [
+    ("éÀ𝄞", "𝄞", Some(2)),
+    ("abc", "", Some(0)),
+    ("abc", "d", None),
+];
 
 #[test]
 fn lengths_and_places_are_counted(rt: HostRuntime) {
-    assert_eq!(rt; length("éÀ𝄞"), 3);
-    assert_eq!(rt; index_of("éÀ𝄞", "𝄞"), Some(2));
-    assert_eq!(rt; index_of("abc", ""), Some(0));
-    assert_eq!(rt; index_of("abc", "d"), None);
+    for (text, characters) in &LENGTHS {
+        assert_eq!(rt; length(text), *characters);
+    }
+    for (text, part, place) in &PLACES {
+        assert_eq!(rt; index_of(text, part), *place);
+    }
 }
 
+// A text, a part, and whether it contains it, starts with it and ends with it.
+const TESTED: [(&str, &str, [bool; 3]); 5] = [
+    ("a,b,,c", "b,", [true, false, false]),
+    ("a", "", [true, true, true]),
+    ("a", "ab", [false, false, false]),
+    ("a,b", "a,", [true, true, false]),
+    ("a,b", "a", [true, true, false]),
+];
+
 #[test]
-fn texts_are_tested_and_formed(rt: HostRuntime) -> Result<(), Fail> {
-    let alloc = rt.alloc();
-    assert!(rt; contains("a,b,,c", "b,"));
-    assert!(rt; contains("a", ""));
-    assert!(rt; !contains("a", "ab"));
-    assert!(rt; starts_with("a,b", "a,"));
-    assert!(rt; !ends_with("a,b", "a"));
-    assert_eq!(rt; upper(alloc, "aé1z")?.as_str(), "Aé1Z");
-    assert_eq!(rt; lower(alloc, "AÉ1Z")?.as_str(), "aÉ1z");
-    assert_eq!(rt; trim(" \t\n x y \r"), "x y");
-    assert_eq!(rt; trim("\u{a0}x"), "\u{a0}x");
-    assert_eq!(rt; trim(" \t"), "");
+fn texts_are_tested(rt: HostRuntime) {
+    for (text, part, wanted) in &TESTED {
+        let got = [
+            contains(text, part),
+            starts_with(text, part),
+            ends_with(text, part),
+        ];
+        assert_eq!(rt; got, *wanted, "at {text}");
+    }
+}
+
+// A text in capitals, and in small letters: those of ASCII alone.
+const CASES: [[&str; 3]; 2] = [["aé1z", "Aé1Z", "aé1z"], ["AÉ1Z", "AÉ1Z", "aÉ1z"]];
+
+const TRIMMED: [[&str; 2]; 3] = [[" \t\n x y \r", "x y"], ["\u{a0}x", "\u{a0}x"], [" \t", ""]];
+
+#[test]
+fn texts_are_formed(rt: HostRuntime) -> Result<(), Fail> {
+    for [text, capitals, small] in &CASES {
+        assert_eq!(rt; upper(rt.alloc(), text)?.as_str(), *capitals);
+        assert_eq!(rt; lower(rt.alloc(), text)?.as_str(), *small);
+    }
+    for [text, inner] in &TRIMMED {
+        assert_eq!(rt; trim(text), *inner);
+    }
     Ok(())
 }
 
@@ -86,22 +126,42 @@ fn a_pattern_is_a_text_or_nothing(rt: HostRuntime) -> Result<(), Fail> {
     Ok(())
 }
 
+// Whether the text has room in so many bytes, with `bb` for each `a`.
+fn is_made(alloc: Global, room: u64) -> Result<bool, Fail> {
+    Ok(replace(alloc, "a,a", "a", "bb", room)?.is_some())
+}
+
 #[test]
 fn a_replaced_text_keeps_to_its_room(rt: HostRuntime) -> Result<(), Fail> {
-    let alloc = rt.alloc();
-    assert!(rt; replace(alloc, "a,a", "a", "bb", 5)?.is_some());
-    assert!(rt; replace(alloc, "a,a", "a", "bb", 4)?.is_none());
+    assert!(rt; is_made(rt.alloc(), 5)?);
+    assert!(rt; !is_made(rt.alloc(), 4)?);
     Ok(())
+}
+
+// A text, where it is split, and its parts, each behind a bar.
+const SPLIT: [[&str; 3]; 4] = [
+    [",a,,b,,", ",", "||a||b"],
+    ["a,b,,c,,", ",,", "|a,b|c"],
+    [",", ",", ""],
+    ["", ",", "|"],
+];
+
+fn parts(alloc: Global, text: &str, at: &str) -> Result<String, Fail> {
+    if at.is_empty() {
+        return Err(Fail::from("split at nothing"));
+    }
+    let mut told = String::new(alloc);
+    for part in &split(alloc, text, at)? {
+        told.push_str("|")?;
+        told.push_str(part)?;
+    }
+    Ok(told)
 }
 
 #[test]
 fn a_text_is_split(rt: HostRuntime) -> Result<(), Fail> {
-    let alloc = rt.alloc();
-    let parts = split(alloc, ",a,,b,,", ",")?;
-    assert_eq!(rt; parts.as_slice(), ["", "a", "", "b"].as_slice());
-    let parts = split(alloc, "a,b,,c,,", ",,")?;
-    assert_eq!(rt; parts.as_slice(), ["a,b", "c"].as_slice());
-    assert_eq!(rt; split(alloc, ",", ",")?.len(), 0);
-    assert_eq!(rt; split(alloc, "", ",")?.as_slice(), [""].as_slice());
+    for [text, at, wanted] in &SPLIT {
+        assert_eq!(rt; parts(rt.alloc(), text, at)?.as_str(), *wanted, "at {text}");
+    }
     Ok(())
 }

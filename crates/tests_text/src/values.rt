@@ -1,6 +1,7 @@
 // Values: printed, counted and joined by operators.
 use std::alloc::Global;
 use std::rc::RcStr;
+use std::test::Fail;
 use vtl_values::{
     Lack, ListMaker, MapMaker, Value, View, add, at_least, at_most, divide, entry_count, entry_key,
     entry_value, equal, greater, item_at, less, list_item, list_length, loop_item, loop_length,
@@ -23,61 +24,105 @@ fn printed(alloc: Global, value: &Value, most: u64) -> Result<String, Lack> {
     Ok(out)
 }
 
+// [x, null, 2.50, [3, 2, 1]]
+fn sample_list(alloc: Global) -> Result<Value, Lack> {
+    let mut items = ListMaker::new(alloc);
+    for source in ["'x", "null", "2.50"] {
+        items.push(operand(alloc, source)?)?;
+    }
+    items.push(Value::range(3, 1))?;
+    Ok(items.close(alloc)?)
+}
+
+fn put(alloc: Global, pairs: &mut MapMaker, key: &str, value: Value) -> Result<(), Lack> {
+    let key = text(alloc, key)?;
+    pairs.put(&key, value)?;
+    Ok(())
+}
+
 // {a=3, b=[x, null, 2.50, [3, 2, 1]]}, where the key a stood twice
 fn sample(alloc: Global) -> Result<Value, Lack> {
-    let mut items = ListMaker::new(alloc);
-    items.push(text(alloc, "x")?)?;
-    items.push(Value::null())?;
-    items.push(number(alloc, "2.50")?)?;
-    items.push(Value::range(3, 1))?;
+    let list = sample_list(alloc)?;
     let mut pairs = MapMaker::new(alloc);
-    let key = text(alloc, "a")?;
-    pairs.put(&key, Value::whole(1))?;
-    pairs.put(&text(alloc, "b")?, items.close(alloc)?)?;
-    pairs.put(&key, Value::whole(3))?;
+    put(alloc, &mut pairs, "a", Value::whole(1))?;
+    put(alloc, &mut pairs, "b", list)?;
+    put(alloc, &mut pairs, "a", Value::whole(3))?;
     Ok(pairs.close(alloc)?)
+}
+
+fn at(index: &Value, value: &Value) -> Result<Value, Lack> {
+    Ok(item_at(index, value)?)
+}
+
+// Adds what stands at these places.
+fn push_items(all: &mut ListMaker, value: &Value, places: &[i64]) -> Result<(), Lack> {
+    for n in places {
+        all.push(at(&Value::whole(*n), value)?)?;
+    }
+    Ok(())
+}
+
+// Adds what a map has under this key.
+fn push_entry(alloc: Global, all: &mut ListMaker, map: &Value, key: &str) -> Result<(), Lack> {
+    let key = text(alloc, key)?;
+    all.push(at(&key, map)?)?;
+    Ok(())
+}
+
+// Adds what a loop over the value has in this turn.
+fn push_turn(all: &mut ListMaker, value: &Value, n: usize) -> Result<(), Lack> {
+    if n < loop_length(value) {
+        all.push(loop_item(value, n)?)?;
+    }
+    Ok(())
 }
 
 fn sample_parts(alloc: Global) -> Result<String, Lack> {
     let map = sample(alloc)?;
-    let list = member(&map, "b")?;
     let mut all = ListMaker::new(alloc);
-    all.push(item_at(&Value::whole(2), &list)?)?;
-    all.push(item_at(&Value::whole(4), &list)?)?;
-    all.push(item_at(&text(alloc, "a")?, &map)?)?;
-    all.push(item_at(&Value::whole(2), &Value::range(5, 1))?)?;
-    let turns = Value::range(5, 9);
-    if 3 < loop_length(&turns) {
-        all.push(loop_item(&turns, 3)?)?;
-    }
+    push_items(&mut all, &member(&map, "b")?, &[2, 4])?;
+    push_entry(alloc, &mut all, &map, "a")?;
+    push_items(&mut all, &Value::range(5, 1), &[2])?;
+    push_turn(&mut all, &Value::range(5, 9), 3)?;
     all.push(ranged(&Value::whole(1), &Value::whole(2)))?;
     printed(alloc, &all.close(alloc)?, 100)
 }
 
-#[test]
-fn a_value_prints_within_its_room(rt: HostRuntime) {
-    let alloc = rt.alloc();
-    let value = sample(alloc).expect(&rt, "memory");
-    let whole = "{a=3, b=[x, null, 2.50, [3, 2, 1]]}";
-    assert_eq!(rt;
-        printed(alloc, &value, 35).expect(&rt, "room").as_str(),
-        whole
-    );
-    assert!(rt; matches!(printed(alloc, &value, 34), Err(Lack::Room)));
-    assert!(rt;
-        matches!(
-            printed(alloc, &Value::range(i64::MIN, i64::MAX), 1000),
-            Err(Lack::Room)
-        )
-    );
-    assert_eq!(rt; value.bytes(), 3);
-    assert_eq!(rt; value.depth(), 3);
+// Whether a value is printed in so many bytes.
+fn fits(alloc: Global, value: &Value, most: u64) -> Result<bool, Lack> {
+    match printed(alloc, value, most) {
+        Ok(_) => Ok(true),
+        Err(Lack::Room) => Ok(false),
+        Err(Lack::Memory) => Err(Lack::Memory),
+    }
+}
+
+// A range of all numbers.
+fn all_numbers() -> Value {
+    Value::range(i64::MIN, i64::MAX)
+}
+
+// How many bytes the texts of a value have, and how deep it is.
+fn measured(value: &Value) -> (u64, u32) {
+    (value.bytes(), value.depth())
 }
 
 #[test]
-fn parts_are_printed(rt: HostRuntime) {
-    let parts = sample_parts(rt.alloc()).expect(&rt, "memory");
+fn a_value_prints_within_its_room(rt: HostRuntime) -> Result<(), Fail> {
+    let value = sample(rt.alloc())?;
+    let whole = printed(rt.alloc(), &value, 35)?;
+    assert_eq!(rt; whole.as_str(), "{a=3, b=[x, null, 2.50, [3, 2, 1]]}");
+    assert!(rt; !fits(rt.alloc(), &value, 34)?);
+    assert!(rt; !fits(rt.alloc(), &all_numbers(), 1000)?);
+    assert_eq!(rt; measured(&value), (3, 3));
+    Ok(())
+}
+
+#[test]
+fn parts_are_printed(rt: HostRuntime) -> Result<(), Fail> {
+    let parts = sample_parts(rt.alloc())?;
     assert_eq!(rt; parts.as_str(), "[2.50, null, 3, 3, 8, [1, 2]]");
+    Ok(())
 }
 
 // What is between quotes is a text; what has a point is a number by its source.
@@ -146,11 +191,12 @@ const OPERATIONS: [(&str, &str, &str, &str); 24] = [
 ];
 
 #[test]
-fn operators_give_what_the_guide_says(rt: HostRuntime) {
+fn operators_give_what_the_guide_says(rt: HostRuntime) -> Result<(), Fail> {
     for (a, operator, b, wanted) in &OPERATIONS {
-        let value = applied(rt.alloc(), a, operator, b).expect(&rt, "memory");
+        let value = applied(rt.alloc(), a, operator, b)?;
         assert_eq!(rt; value.as_str(), *wanted, "{a} {operator} {b}");
     }
+    Ok(())
 }
 
 // [[[..], [..]], [[..], [..]]], so many levels deep, of two items at each
@@ -165,37 +211,84 @@ fn doubled(alloc: Global, levels: u32) -> Result<Value, Lack> {
     Ok(value)
 }
 
-#[test]
-fn a_shared_list_is_never_spread_out(rt: HostRuntime) {
-    let alloc = rt.alloc();
-    let deep = doubled(alloc, 64).expect(&rt, "memory");
-    assert_eq!(rt; deep.depth(), 64);
-    assert_eq!(rt; deep.bytes(), u64::MAX);
-    assert!(rt; matches!(printed(alloc, &deep, 1000), Err(Lack::Room)));
-    assert!(rt; matches!(equal(alloc, &deep, &deep, 1000), Err(Lack::Room)));
-    assert!(rt; doubled(alloc, 65).expect(&rt, "memory").is_null());
+// Whether a value is compared with itself in so many bytes.
+fn is_compared(alloc: Global, value: &Value, room: u64) -> Result<bool, Lack> {
+    match equal(alloc, value, value, room) {
+        Ok(_) => Ok(true),
+        Err(Lack::Room) => Ok(false),
+        Err(Lack::Memory) => Err(Lack::Memory),
+    }
 }
 
 #[test]
-fn parts_are_lent(rt: HostRuntime) {
-    let map = sample(rt.alloc()).expect(&rt, "memory");
+fn a_shared_list_is_never_spread_out(rt: HostRuntime) -> Result<(), Fail> {
+    let deep = doubled(rt.alloc(), 64)?;
+    assert_eq!(rt; measured(&deep), (u64::MAX, 64));
+    assert!(rt; !fits(rt.alloc(), &deep, 1000)?);
+    assert!(rt; !is_compared(rt.alloc(), &deep, 1000)?);
+    assert!(rt; doubled(rt.alloc(), 65)?.is_null());
+    Ok(())
+}
+
+// The key and the value of an entry.
+fn entry(map: &Value, n: usize) -> Option<(&str, &Value)> {
+    let key = entry_key(map, n)?;
+    let value = entry_value(map, n)?;
+    Some((key.as_str(), value))
+}
+
+// An item of a list, where it is a text.
+fn text_item(list: &Value, n: usize) -> Option<&str> {
+    if n < list_length(list) {
+        Some(list_item(list, n).as_text()?.as_str())
+    } else {
+        None
+    }
+}
+
+// How many items the view of a list lends.
+fn items_viewed(list: &Value) -> Option<usize> {
+    match list.view() {
+        View::List(items) => Some(items.len()),
+        _ => None,
+    }
+}
+
+#[test]
+fn parts_are_lent(rt: HostRuntime) -> Result<(), Fail> {
+    let map = sample(rt.alloc())?;
     assert_eq!(rt; entry_count(&map), 2);
-    assert_eq!(rt; entry_key(&map, 1).expect(&rt, "a key").as_str(), "b");
-    let list = entry_value(&map, 1).expect(&rt, "a value");
-    assert_eq!(rt; list_length(list), 4);
-    assert!(rt; matches!(list.view(), View::List(items) if items.len() == 4));
-    assert_eq!(rt;
-        list_item(list, 0).as_text().expect(&rt, "a text").as_str(),
-        "x"
-    );
     assert_eq!(rt; size(&map), Some(2));
+    let (key, list) = entry(&map, 1).ok_or("no entry")?;
+    assert_eq!(rt; key, "b");
+    assert_eq!(rt; list_length(list), 4);
+    assert_eq!(rt; items_viewed(list), Some(4));
+    assert_eq!(rt; text_item(list, 0), Some("x"));
+    Ok(())
+}
+
+// The ends of a range, as it is viewed.
+fn range_viewed(first: i64, last: i64) -> Option<(i64, i64)> {
+    match Value::range(first, last).view() {
+        View::Range(first, last) => Some((first, last)),
+        _ => None,
+    }
+}
+
+fn range_size(first: i64, last: i64) -> Option<i64> {
+    size(&Value::range(first, last))
+}
+
+// How often a loop over a range turns.
+fn turns(first: i64, last: i64) -> usize {
+    loop_length(&Value::range(first, last))
 }
 
 #[test]
 fn a_value_is_seen_by_its_kind(rt: HostRuntime) {
-    assert!(rt; matches!(Value::range(3, 1).view(), View::Range(3, 1)));
-    assert_eq!(rt; size(&Value::range(i64::MIN, i64::MAX)), None);
-    assert_eq!(rt; loop_length(&Value::range(1, 5000)), 1000);
+    assert_eq!(rt; range_viewed(3, 1), Some((3, 1)));
+    assert_eq!(rt; range_size(i64::MIN, i64::MAX), None);
+    assert_eq!(rt; turns(1, 5000), 1000);
     assert!(rt; Value::whole(0).is_true());
     assert!(rt; !Value::boolean(false).is_true());
     assert_eq!(rt; Value::boolean(true).as_bool(), Some(true));

@@ -8,7 +8,7 @@ use keeper_core::{MemKeeper, Table, Tables};
 use std::alloc::Global;
 use std::test::Fail;
 
-pub const LIMITS: Limits = Limits {
+pub(crate) const LIMITS: Limits = Limits {
     entries: 20,
     bytes: 1000,
 };
@@ -34,7 +34,7 @@ struct Played {
     vars: Text,
 }
 
-pub fn text(alloc: Global, from: &str) -> Result<Text, Memory> {
+pub(crate) fn text(alloc: Global, from: &str) -> Result<Text, Memory> {
     Ok(Text::of(String::from_str(alloc, from)?))
 }
 

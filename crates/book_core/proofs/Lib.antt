@@ -4,3 +4,4 @@ mod Found
 mod Puts
 mod Starting
 mod Stepping
+mod Stores

@@ -13,11 +13,19 @@ use Rattle.book_rules.specs.History.{Base, state_after, tables_after, plan_after
 use Rattle.book_rules.specs.Machine.{opened}
 use Rattle.book_rules.specs.declared.events.Entry.{Entry}
 use Rattle.book_core.specs.Books.{Keeps}
-use Rattle.book_core.specs.Starts.{StartFails, IsNamed, FailsAt, fault_of}
+use Rattle.book_core.specs.Starts.{StartFails, IsNamed, FailsAt, is_store_fault, fault_of}
 
-fails_at : (planned now : Option Planned) → IsPlanned planned true false now → FailsAt planned true
-fails_at None now went = tt
-fails_at (Some plan) now went = sym went.fails
+-- a load fails exactly where it is told to
+pub fails_at : (planned now : Option Planned) (failed memory : Bool) → IsPlanned planned failed memory now → FailsAt planned failed
+fails_at None now failed memory went = tt
+fails_at (Some plan) now failed memory went = went.fails
+
+-- and so the book fails to start
+pub fails_by : (T : Type 0) (planned now : Option Planned) (fault : LoadFault) → IsPlanned planned (is_failed_load {T = T} (Err fault)) (load_wants_memory {T = T} (Err fault)) now
+    → FailsAt planned (is_store_fault (fault_of fault))
+fails_by T planned now (BadRow table row) went = fails_at planned now false false went
+fails_by T planned now Failed went = fails_at planned now true false went
+fails_by T planned now load.Memory went = fails_at planned now false true went
 
 module _ {T : Type 0} where
   named_by_load : (tables : Option Lists) (before now : KeeperFacts) (table : Table) (row : ℕ) → HasLoadCause {T = T} before now (Err (BadRow table row))
@@ -28,10 +36,10 @@ module _ {T : Type 0} where
   -- a load that failed is why the book did not start
   pub by_load : (fault : LoadFault) (before now : KeeperFacts) → HasLoadCause {T = T} before now (Err fault)
       → IfSome before.tables (λ _. is_bad_row {T = T} (Err fault) ≡ false)
-      → IsPlanned before.planned (is_failed_load {T = T} (Err fault)) (load_wants_memory {T = T} (Err fault)) now.planned → StartFails before (fault_of fault) now
-  by_load (BadRow table row) before now cause good went = named_by_load before.tables before now table row cause good
-  by_load Failed before now cause good went = ((cause.failed refl).1, fails_at before.planned now.planned went)
-  by_load load.Memory before now cause good went = tt
+      → StartFails before (fault_of fault) now
+  by_load (BadRow table row) before now cause good = named_by_load before.tables before now table row cause good
+  by_load Failed before now cause good = (cause.failed refl).1
+  by_load load.Memory before now cause good = tt
 
 told_first : (opening : Lists) (tables : Option Lists) → IfSome tables (λ lists. opening ≡ lists) → IfSome tables (λ lists. lists ≡ tables_after opening [])
 told_first opening None same = tt

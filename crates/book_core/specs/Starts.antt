@@ -1,5 +1,5 @@
 -- How a book starts over a keeper.
-use Rattle.std.specs.Prelude.{◌≡◌, ◌⊎◌, ℕ, Bool, true, false, List, [], Option, Some, None, IfSome}
+use Rattle.std.specs.Prelude.{◌≡◌, ◌⊎◌, ℕ, Bool, true, false, List, [], Option, Some, None, Result, Ok, Err, IfSome}
 use Rattle.gw_base.specs.Outside.{Rose}
 use Rattle.keeper_core.specs.Lists.{Lists}
 use Rattle.keeper_core.specs.Keeping.{KeeperFacts, Planned, IsPlanned, fails_now}
@@ -25,6 +25,7 @@ pub record HasStarted (before : KeeperFacts) (asked : Limits) (base : Base) (ent
   pub tables : now.tables ≡ before.tables
   pub staged : now.staged ≡ []
   pub faults : now.faults ≡ before.faults
+  pub loads : now.loads ≡ before.loads
   pub planned : IsPlanned before.planned false false now.planned
 
 -- a row is named: the first that is refused, where the tables are told; else such a row of what was loaded, or one that the load named
@@ -32,16 +33,26 @@ abbrev pub IsNamed : Option Lists → KeeperFacts → Table → ℕ → KeeperFa
 IsNamed (Some lists) before table row now = bad_row lists ≡ Some (table, row)
 IsNamed None before table row now = Rose before.loads now.loads ⊎ ((lists : Lists) × (bad_row lists ≡ Some (table, row)))
 
--- the load's call is one of those that fail
-abbrev pub FailsAt : Option Planned → Bool → Type 0
-FailsAt None failed = Unit {0}
-FailsAt (Some plan) failed = fails_now plan ≡ failed
-
 -- why a book did not start, and what the keeper shows that is handed back
 abbrev pub StartFails : KeeperFacts → StartFault → KeeperFacts → Type 0
 StartFails before (BadStore table row) now = IsNamed before.tables before table row now
-StartFails before StoreFault now = Rose before.loads now.loads × FailsAt before.planned true
+StartFails before StoreFault now = Rose before.loads now.loads
 StartFails before Memory now = Unit {0}
+
+abbrev pub is_store_fault : StartFault → Bool
+is_store_fault (BadStore table row) = false
+is_store_fault StoreFault = true
+is_store_fault Memory = false
+
+-- the keeper failed
+abbrev pub is_failed_start : {B K : Type 0} → Result B (K × StartFault) → Bool
+is_failed_start (Ok book) = false
+is_failed_start (Err e) = is_store_fault e.1
+
+-- it fails exactly where the load's call is one of those that are told to fail
+abbrev pub FailsAt : Option Planned → Bool → Type 0
+FailsAt None failed = Unit {0}
+FailsAt (Some plan) failed = failed ≡ fails_now plan
 
 -- what the load's fault is to a book
 abbrev pub fault_of : LoadFault → StartFault

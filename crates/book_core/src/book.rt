@@ -1,5 +1,6 @@
 // The book.
 ghost use Rattle.std.specs.Prelude.{◌≡◌, ◌≢◌, [], ◌∷◌, ◌++◌, length, true, false, Some, None, IfOk, OnOk, OnErr, IfErr, IsErrOf, is_some};
+ghost use Rattle.gw_base.specs.Outside.{Rose};
 ghost use Rattle.book_rules.specs.Good.{bad_row};
 ghost use Rattle.book_rules.specs.History.{Answers, total_size, state_after, tables_after, is_full};
 ghost use Rattle.book_rules.specs.Machine.{outcome_of, takes_memory};
@@ -110,6 +111,9 @@ impl<K: Keeper> Book<K> {
 
         // One entry is added, of this seat and event, and the reply is the machine's at its place.
         ensures taken { IfOk result (λ r. (entry : Entry) × (self.new.history ≡ self.old.history ++ entry ∷ []) × (entry.seat ≡ seat) × (entry.event ≡ event) × Answers self.old.base self.old.history entry r) }
+
+        // Store is replied only where the keeper failed in this step.
+        ensures store { IfOk result (λ r. r ≡ Reply.Store → Rose (K.facts self.old.keeper).faults (K.facts self.new.keeper).faults) }
 
         // A request happens before the year 2100, whatever moment it was told.
         ensures time { IfOk result IsInTime }

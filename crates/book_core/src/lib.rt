@@ -13,7 +13,7 @@
 //! | A keeper | What comes |
 //! |---|---|
 //! | whose tables have a deployment numbered 2 and none numbered 1 | `BadStore(Table::Deployments, 0)`, and the keeper back |
-//! | in memory, whose call 0 fails | `StoreFault`, and the keeper back |
+//! | in memory, whose call 0, the load, fails | `StoreFault`, and the keeper back |
 //! | in memory, whose call 1 fails | the first change is replied `Store`; the next is made by calls 2 and 3 |
 //! | any, and a history that is full | `Err(SessionFull)`, and nothing changes |
 //!

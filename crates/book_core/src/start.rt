@@ -3,7 +3,7 @@ ghost use Rattle.std.specs.Prelude.{◌≡◌, ◌≤◌, [], IfOk, IfErr};
 ghost use Rattle.std.specs.Vec.{vec_capacity};
 ghost use Rattle.book_rules.specs.Machine.{latest_of as latest_of_rows, opened};
 ghost use Rattle.book_core.specs.Standing.{standing};
-ghost use Rattle.book_core.specs.Starts.{HasStarted, StartFails, fault_of as fault_of_load};
+ghost use Rattle.book_core.specs.Starts.{HasStarted, StartFails, FailsAt, is_failed_start, fault_of as fault_of_load};
 
 use crate::book::Book;
 use crate::current::Current;
@@ -60,6 +60,9 @@ impl<K: Keeper> Book<K> {
         ensures failed { IfErr result (λ e. StartFails (K.facts keeper) e.1 (K.facts e.0)) }
         ensures tables { IfErr result (λ e. (K.facts e.0).tables ≡ (K.facts keeper).tables) }
         ensures staged { IfErr result (λ e. (K.facts e.0).staged ≡ []) }
+
+        // StoreFault comes exactly where the load is told to fail, where the keeper tells it.
+        ensures planned { FailsAt (K.facts keeper).planned (is_failed_start result) }
     {
         let mut keeper = keeper;
         let opening = match keeper.load(alloc) {

@@ -30,6 +30,6 @@ fn main(rt: HostRuntime) -> ExitCode {
     let words = words_of(&rt, alloc);
     let mut input = ReaderSource::new(rt.stdin());
     let mut output = WriterSink::new(rt.stdout());
-    let mut outside = DiskOutside::new(rt);
-    ExitCode::from(run(alloc, &words, &mut input, &mut output, &mut outside))
+    let mut outside = DiskOutside::new(&rt);
+    ExitCode::from(run(&rt, alloc, &words, &mut input, &mut output, &mut outside))
 }

@@ -1,5 +1,5 @@
 -- What holds of what the outside tells, and of some value where it tells none.
-use Rattle.std.proofs.Common.{◌≡◌, ℕ, zero, suc, ◌<◌, List, [], ◌∷◌, length, cond, Option, Some, None, IfSome, IfOk, OnErr, Result, Ok, Err, refl, sym, ap, arith}
+use Rattle.std.proofs.Common.{◌≡◌, ℕ, zero, suc, ◌<◌, List, [], ◌∷◌, length, cond, Option, Some, None, IfSome, IfOk, OnErr, Result, Ok, Err, refl, sym, ap, subst, arith}
 use Rattle.gateway_cli.specs.Top.{OfTold}
 pub use Rattle.play_script.proofs.Playing.{on_err_of}
 
@@ -40,3 +40,11 @@ pub on_err_of_longer : {E : Type 0} (n : ℕ) (left : Option (List ℕ)) (r : Re
     → ((input : List ℕ) → n < length input → OnErr r (Q input)) → OnErr r (OfTold left Q)
 on_err_of_longer n left (Ok status) Q h f = tt
 on_err_of_longer n left (Err e) Q h f = of_longer n left Q h f
+
+-- what holds of each error, where it is known to be one
+pub on_err_is : {E : Type 0} (r : Result ℕ E) (P : Type 0) (e : E) → r ≡ Err e → OnErr r P → P
+on_err_is r P e is h = subst (λ s. OnErr s P) is h
+
+-- what holds of a value that is the one that is told
+pub of_same : {A : Type 0} (outside : Option A) (x y : A) (P : A → Type 0) → x ≡ y → IfSome outside (λ told. y ≡ told) → P x → OfTold outside P
+of_same outside x y P same told p = (y, told, subst P same p)

@@ -1,7 +1,7 @@
 -- The words, the input and the files come to one outcome, and what is written where the program is cut short is a front of it.
 use Rattle.std.proofs.Common.{◌≡◌, ◌≢◌, ◌⊎◌, inl, inr, ℕ, ◌+◌, Bool, true, false, List, [], ◌∷◌, ◌++◌, Option, Some, None, Result, Ok, Err, refl, sym, ap, ◌∙◌, subst, append_assoc, append-nil}
-use Rattle.play_book.specs.declared.events.Entry.{Entry}
-use Rattle.play_book.specs.declared.events.Limits.{Limits}
+use Rattle.book_rules.specs.declared.events.Entry.{Entry}
+use Rattle.book_rules.specs.History.{Base}
 use Rattle.call_facts.specs.declared.request.WireReply.{WireReply}
 use Rattle.http_edge.proofs.ReplyUnique.{reply_unique}
 use Rattle.http_edge.specs.Replies.{IsReply}
@@ -9,14 +9,15 @@ use Rattle.http_framing.specs.declared.fault.EdgeFault.{EdgeFault}
 use Rattle.play_connection.proofs.Once.{connects_once}
 use Rattle.play_connection.specs.Talks.{Said}
 use Rattle.play_script.specs.Calls.{IsWhole, IsOther, IsNoWhole, IsOutcome, IsNoOutcome, AreOutcomes, BreaksOutcomes}
-use Rattle.play_script.specs.Coding.{lines_of, is_passed_over}
+use Rattle.play_script.specs.Coding.{is_passed_over}
 use Rattle.gateway_cli.specs.Commands.{is_play, OutcomeBy, Outcome, OutcomeFrontBy, OutcomeFront, HasOneOutcome, FrontsAreOfTheOutcome}
 use Rattle.gateway_cli.specs.Files.{Files}
-use Rattle.play_script.specs.Play.{Turn, Output, before, base_of, talked, IsTalk, IsCall, Does, DoesOrNot, PassesOrDoes, IsTurn, GoesOn, Plays, IsFront, GoesOnInFront, PlaysFront, PlayedBy, Played, PlayedFrontBy, PlayedFront, session_limits, script_limit}
+use Rattle.play_script.specs.Play.{Turn, Output, before, talked, IsTalk, IsCall, Does, DoesOrNot, PassesOrDoes, IsTurn, GoesOn, Plays, IsFront, GoesOnInFront, PlaysFront, PlayedBy, Played, OpenedFrontBy, PlayedFrontBy, PlayedFront, opening_of, session_limits, script_limit}
+use Rattle.play_connection.specs.Sessions.{base_of}
 use Rattle.play_script.specs.Records.{record_in}
 use Rattle.play_script.specs.declared.records.LineFault.{LineFault}
 use Rattle.play_script.specs.declared.records.Record.{Record}
-use Rattle.play_script.specs.declared.records.Record.TheVariants.{PutText, Deploy, PutStage, Post, Call}
+use Rattle.play_script.specs.declared.records.Record.TheVariants.{PutText, Deploy, PutStage, Shutdown, Post, Call}
 use Rattle.play_script.specs.declared.turns.End.{End}
 
 -- outcomes
@@ -38,30 +39,31 @@ all_or_not (field ∷ fields) are (inr breaks) = all_or_not fields are.1 breaks.
 
 -- lines
 
-talk_once : (limits : Limits) (history : List Entry) (moment word : ℕ) (bytes : List ℕ) (a b : Turn) → IsTalk limits history moment word bytes a → IsTalk limits history moment word bytes b → a ≡ b
-talk_once limits history moment word bytes a b (said, connects, is) (other, also, told) =
-    is ∙ ap talked (connects_once (base_of limits) moment word history bytes said other connects also) ∙ sym told
+talk_once : (base : Base) (history : List Entry) (moment word : ℕ) (bytes : List ℕ) (a b : Turn) → IsTalk base history moment word bytes a → IsTalk base history moment word bytes b → a ≡ b
+talk_once base history moment word bytes a b (said, connects, is) (other, also, told) =
+    is ∙ ap talked (connects_once base moment word history bytes said other connects also) ∙ sym told
 
-does_once : (limits : Limits) (number : ℕ) (history : List Entry) (found : Record) (a b : Turn) → Does limits number history found a → Does limits number history found b → a ≡ b
-does_once limits number history (PutText moment api template) a b x y = x ∙ sym y
-does_once limits number history (Deploy moment api) a b x y = x ∙ sym y
-does_once limits number history (PutStage moment api stage deployment variables) a b x y = x ∙ sym y
-does_once limits number history (Post moment word api stage body) a b x y = talk_once limits history moment word _ a b x y
-does_once limits number history (Call moment word bytes outcomes) a b (inl x) (inl y) = talk_once limits history moment word bytes a b x.1 y.1
-does_once limits number history (Call moment word bytes outcomes) a b (inl x) (inr y) = absurd (all_or_not outcomes x.0 y.0)
-does_once limits number history (Call moment word bytes outcomes) a b (inr x) (inl y) = absurd (all_or_not outcomes y.0 x.0)
-does_once limits number history (Call moment word bytes outcomes) a b (inr x) (inr y) = x.1 ∙ sym y.1
+does_once : (base : Base) (number : ℕ) (history : List Entry) (found : Record) (a b : Turn) → Does base number history found a → Does base number history found b → a ≡ b
+does_once base number history (PutText moment api template) a b x y = x ∙ sym y
+does_once base number history (Deploy moment api) a b x y = x ∙ sym y
+does_once base number history (PutStage moment api stage deployment variables) a b x y = x ∙ sym y
+does_once base number history (Shutdown moment) a b x y = x ∙ sym y
+does_once base number history (Post moment word api stage body) a b x y = talk_once base history moment word _ a b x y
+does_once base number history (Call moment word bytes outcomes) a b (inl x) (inl y) = talk_once base history moment word bytes a b x.1 y.1
+does_once base number history (Call moment word bytes outcomes) a b (inl x) (inr y) = absurd (all_or_not outcomes x.0 y.0)
+does_once base number history (Call moment word bytes outcomes) a b (inr x) (inl y) = absurd (all_or_not outcomes y.0 x.0)
+does_once base number history (Call moment word bytes outcomes) a b (inr x) (inr y) = x.1 ∙ sym y.1
 
-found_once : (limits : Limits) (number : ℕ) (history : List Entry) (found : Result Record LineFault) (a b : Turn) → DoesOrNot limits number history found a → DoesOrNot limits number history found b → a ≡ b
-found_once limits number history (Ok found) a b x y = does_once limits number history found a b x y
-found_once limits number history (Err fault) a b x y = x ∙ sym y
+found_once : (base : Base) (number : ℕ) (history : List Entry) (found : Result Record LineFault) (a b : Turn) → DoesOrNot base number history found a → DoesOrNot base number history found b → a ≡ b
+found_once base number history (Ok found) a b x y = does_once base number history found a b x y
+found_once base number history (Err fault) a b x y = x ∙ sym y
 
-passed_once : (limits : Limits) (number : ℕ) (history : List Entry) (line : List ℕ) (passed : Bool) (a b : Turn) → PassesOrDoes limits number history line passed a → PassesOrDoes limits number history line passed b → a ≡ b
-passed_once limits number history line true a b x y = x ∙ sym y
-passed_once limits number history line false a b x y = found_once limits number history (record_in line) a b x y
+passed_once : (base : Base) (number : ℕ) (history : List Entry) (line : List ℕ) (passed : Bool) (a b : Turn) → PassesOrDoes base number history line passed a → PassesOrDoes base number history line passed b → a ≡ b
+passed_once base number history line true a b x y = x ∙ sym y
+passed_once base number history line false a b x y = found_once base number history (record_in line) a b x y
 
-turn_once : (limits : Limits) (number : ℕ) (history : List Entry) (line : List ℕ) (a b : Turn) → IsTurn limits number history line a → IsTurn limits number history line b → a ≡ b
-turn_once limits number history line a b x y = passed_once limits number history line (is_passed_over line) a b x y
+turn_once : (base : Base) (number : ℕ) (history : List Entry) (line : List ℕ) (a b : Turn) → IsTurn base number history line a → IsTurn base number history line b → a ≡ b
+turn_once base number history line a b x y = passed_once base number history line (is_passed_over line) a b x y
 
 -- plays
 
@@ -70,12 +72,12 @@ goes_once : (ends : Option End) (text : List ℕ) (further : Output → Type 0) 
 goes_once None text further once a b (rest, plays, is) (other, also, told) = is ∙ ap (before text) (once rest other plays also) ∙ sym told
 goes_once (Some end) text further once a b x y = x ∙ sym y
 
-plays_once : (limits : Limits) (number : ℕ) (history : List Entry) (lines : List (List ℕ)) (a b : Output) → Plays limits number history lines a → Plays limits number history lines b → a ≡ b
-plays_once limits number history [] a b x y = x ∙ sym y
-plays_once limits number history (line ∷ lines) a b (now, turn, goes) (then_, also, went) =
-    let same = turn_once limits number history line then_ now also turn in
-    goes_once now.ends now.text (Plays limits (number + 1) now.history lines) (λ p q. plays_once limits (number + 1) now.history lines p q) a b goes
-    (subst (λ (t : Turn). GoesOn t.ends t.text (Plays limits (number + 1) t.history lines) b) same went)
+plays_once : (base : Base) (number : ℕ) (history : List Entry) (lines : List (List ℕ)) (a b : Output) → Plays base number history lines a → Plays base number history lines b → a ≡ b
+plays_once base number history [] a b x y = x ∙ sym y
+plays_once base number history (line ∷ lines) a b (now, turn, goes) (then_, also, went) =
+    let same = turn_once base number history line then_ now also turn in
+    goes_once now.ends now.text (Plays base (number + 1) now.history lines) (λ p q. plays_once base (number + 1) now.history lines p q) a b goes
+    (subst (λ (t : Turn). GoesOn t.ends t.text (Plays base (number + 1) t.history lines) b) same went)
 
 -- fronts
 
@@ -95,29 +97,34 @@ behind_front None text further fronts front a each (rest, plays, is) (more, hold
     (inner.0, ap (λ f. f ++ inner.0) told ∙ append_assoc text more inner.0 ∙ ap (λ t. text ++ t) inner.1)
 behind_front (Some end) text further fronts front a each is none = absurd none
 
-plays_front_once : (limits : Limits) (number : ℕ) (history : List Entry) (lines : List (List ℕ)) (front : List ℕ) (a : Output)
-    → PlaysFront limits number history lines front → Plays limits number history lines a → IsFront front a.text
-plays_front_once limits number history [] front a none is = (a.text, ap (λ f. f ++ a.text) none)
-plays_front_once limits number history (line ∷ lines) front a (inl none) plays = (a.text, ap (λ f. f ++ a.text) none)
-plays_front_once limits number history (line ∷ lines) front a (inr (now, turn, inl is)) (then_, also, went) =
-    let same = turn_once limits number history line then_ now also turn in
-    goes_in_front now.ends now.text (Plays limits (number + 1) now.history lines) front a
-    (subst (λ (t : Turn). GoesOn t.ends t.text (Plays limits (number + 1) t.history lines) a) same went) is
-plays_front_once limits number history (line ∷ lines) front a (inr (now, turn, inr behind)) (then_, also, went) =
-    let same = turn_once limits number history line then_ now also turn in
-    behind_front now.ends now.text (Plays limits (number + 1) now.history lines) (PlaysFront limits (number + 1) now.history lines) front a
-    (λ more rest holds plays. plays_front_once limits (number + 1) now.history lines more rest holds plays)
-    (subst (λ (t : Turn). GoesOn t.ends t.text (Plays limits (number + 1) t.history lines) a) same went) behind
+plays_front_once : (base : Base) (number : ℕ) (history : List Entry) (lines : List (List ℕ)) (front : List ℕ) (a : Output)
+    → PlaysFront base number history lines front → Plays base number history lines a → IsFront front a.text
+plays_front_once base number history [] front a none is = (a.text, ap (λ f. f ++ a.text) none)
+plays_front_once base number history (line ∷ lines) front a (inl none) plays = (a.text, ap (λ f. f ++ a.text) none)
+plays_front_once base number history (line ∷ lines) front a (inr (now, turn, inl is)) (then_, also, went) =
+    let same = turn_once base number history line then_ now also turn in
+    goes_in_front now.ends now.text (Plays base (number + 1) now.history lines) front a
+    (subst (λ (t : Turn). GoesOn t.ends t.text (Plays base (number + 1) t.history lines) a) same went) is
+plays_front_once base number history (line ∷ lines) front a (inr (now, turn, inr behind)) (then_, also, went) =
+    let same = turn_once base number history line then_ now also turn in
+    behind_front now.ends now.text (Plays base (number + 1) now.history lines) (PlaysFront base (number + 1) now.history lines) front a
+    (λ more rest holds plays. plays_front_once base (number + 1) now.history lines more rest holds plays)
+    (subst (λ (t : Turn). GoesOn t.ends t.text (Plays base (number + 1) t.history lines) a) same went) behind
 
 -- scripts and words
 
 played_by_once : (long : Bool) (script : List ℕ) (a b : Output) → PlayedBy long script a → PlayedBy long script b → a ≡ b
 played_by_once true script a b x y = x ∙ sym y
-played_by_once false script a b x y = plays_once session_limits 1 [] (lines_of script) a b x y
+played_by_once false script a b x y =
+    let opening = opening_of script in
+    plays_once (base_of session_limits opening.fails) opening.number [] opening.lines a b x.1 y.1
 
 played_front_by : (long : Bool) (script front : List ℕ) (a : Output) → PlayedBy long script a → PlayedFrontBy long script front → IsFront front a.text
 played_front_by true script front a is f = subst (λ (o : Output). IsFront front o.text) (sym is) f
-played_front_by false script front a plays f = plays_front_once session_limits 1 [] (lines_of script) front a f plays
+played_front_by false script front a plays f =
+    let opening = opening_of script in
+    plays_front_once (base_of session_limits opening.fails) opening.number [] opening.lines front a
+    (subst (λ named. OpenedFrontBy named session_limits opening front) plays.0 f) plays.1
 
 outcome_by_once : (play : Bool) (words : List (List ℕ)) (input : List ℕ) (files : Files) (a b : Output) → OutcomeBy play words input files a → OutcomeBy play words input files b → a ≡ b
 unfolding Played

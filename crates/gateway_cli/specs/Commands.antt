@@ -4,7 +4,7 @@ use Rattle.std.specs.Option.{is_some}
 use Rattle.std.specs.Str.{bytes_eq}
 use Rattle.gateway_cli.specs.Check.{check_of}
 use Rattle.gateway_cli.specs.Files.{Files}
-use Rattle.play_script.specs.Play.{Output, Played, PlayedFront, IsFront}
+use Rattle.play_script.specs.Play.{Output, Played, PlayedFront, FailsToLoad, IsFront}
 use Rattle.play_script.specs.Printed.{line_feed}
 use Rattle.gateway_cli.specs.Render.{render_of}
 
@@ -74,6 +74,10 @@ OutcomeFrontBy false words input files front = IsFront front (over_files files w
 
 unfoldable pub OutcomeFront : List (List ℕ) → List ℕ → Files → List ℕ → Type 0
 OutcomeFront words input files front = OutcomeFrontBy (is_play words) words input files front
+
+-- the words are `play`, and the script tells the load of its keeper to fail
+abbrev pub TellsLoadToFail : List (List ℕ) → List ℕ → Type 0
+TellsLoadToFail words input = (is_play words ≡ true) × FailsToLoad input
 
 -- The outcome is one thing, and a front is one of it.
 abbrev pub HasOneOutcome : Type 0

@@ -7,6 +7,8 @@ use Rattle.gw_base.specs.declared.outside.WriteStop.{WriteStop}
 use Rattle.gw_base.specs.declared.outside.WriteStop.TheVariants as write
 use Rattle.play_script.specs.Play.{Output, SaysFront}
 use Rattle.play_script.specs.Printed.{line_feed}
+use Rattle.play_script.specs.declared.stops.PlayStop.{PlayStop}
+use Rattle.play_script.specs.declared.stops.PlayStop.TheVariants as play
 use Rattle.gateway_cli.specs.declared.stopped.Stopped.{Stopped}
 use Rattle.gateway_cli.specs.declared.stopped.Stopped.TheVariants as stopped
 
@@ -40,14 +42,21 @@ abbrev pub Stands : Count → Type 0
 Stands count = count.now ≡ count.before
 
 -- The line names the first cause, in the order in which they come: the count of the input, that of the files or that of the output rose,
--- and the counts before it stand.
-abbrev pub Faulted : Option (List ℕ) → Option (List ℕ) → (List ℕ → Type 0) → Count → Count → Count → Type 0
-Faulted old new Front input files output =
+-- and the counts before it stand; or the load of a play's keeper was told to fail, and nothing came before it.
+abbrev pub Faulted : Option (List ℕ) → Option (List ℕ) → (List ℕ → Type 0) → Count → Count → Count → Type 0 → Type 0
+Faulted old new Front input files output load =
     Names old new Front input (codes "input")
     ⊎ ((Stands input × Names old new Front files (codes "file"))
-    ⊎ (Stands input × Stands files × Names old new Front output (codes "output")))
+    ⊎ ((Stands input × Stands files × Names old new Front output (codes "output"))
+    ⊎ (Stands input × Stands files × load × SaysFault old new Front (codes "keeper"))))
 
 -- why the program stops where a write was refused
 abbrev pub stopped_by : WriteStop → Stopped
 stopped_by write.Failed = stopped.Output
 stopped_by write.Memory = stopped.Memory
+
+-- why it stops where a play does
+abbrev pub play_stopped_by : PlayStop → Stopped
+play_stopped_by play.Keeper = stopped.Keeper
+play_stopped_by play.Output = stopped.Output
+play_stopped_by play.Memory = stopped.Memory

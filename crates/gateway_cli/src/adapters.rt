@@ -73,14 +73,14 @@ impl<W: Write + Drop> Sink for WriterSink<W> {
 
 /// The files of the machine, which counts those that can't be opened or read.
 #[derive(Drop)]
-pub struct DiskOutside<R: Files + Drop> {
-    rt: R,
+pub struct DiskOutside<'r, R: Files> {
+    rt: &'r R,
     faults: u64,
 }
 
-impl<R: Files + Drop> DiskOutside<R> {
+impl<'r, R: Files> DiskOutside<'r, R> {
     /// The files that this runtime opens, of which none has failed.
-    pub fn new(rt: R) -> Self {
+    pub fn new(rt: &'r R) -> Self {
         DiskOutside { rt, faults: 0 }
     }
 }
@@ -94,13 +94,13 @@ fn read_file<R: Files>(rt: &R, alloc: Global, name: &str, limit: usize) -> Resul
     read_all(alloc, &mut ReaderSource::new(file), limit)
 }
 
-impl<R: Files + Drop> Outside for DiskOutside<R> {
+impl<'r, R: Files> Outside for DiskOutside<'r, R> {
     ghost files = { λ _. None };
 
     ghost faults = { λ s. s.faults };
 
     fn file(&mut self, alloc: Global, name: &str, limit: usize) -> Result<Vec<u8>, ReadAll> {
-        let read = read_file(&self.rt, alloc, name, limit);
+        let read = read_file(self.rt, alloc, name, limit);
         if matches!(&read, Err(ReadAll::Fault)) {
             self.faults = self.faults.saturating_add(1);
         }

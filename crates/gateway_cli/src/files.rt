@@ -30,6 +30,7 @@ fn file_in<O: Outside>(
     ensures read { IfOk result (λ bytes. (content : List ℕ) × Holds (O.files outside.old) name.now content × (bytes ≡ within limit content)) }
     ensures fault { IsErrOf result Stopped.File → Rose (O.faults outside.old) (O.faults outside.new) }
     ensures input { result ≢ Err Stopped.Input }
+    ensures keeper { result ≢ Err Stopped.Keeper }
     ensures output { result ≢ Err Stopped.Output }
     ensures kept { OnOk result (O.faults outside.new ≡ O.faults outside.old) }
     ensures files { O.files outside.new ≡ O.files outside.old }
@@ -63,6 +64,7 @@ pub fn files_in<O: Outside>(
     ensures fault { IsErrOf result Stopped.File → Rose (O.faults outside.old) (O.faults outside.new) }
     ensures kept { OnOk result (O.faults outside.new ≡ O.faults outside.old) }
     ensures input { result ≢ Err Stopped.Input }
+    ensures keeper { result ≢ Err Stopped.Keeper }
     ensures output { result ≢ Err Stopped.Output }
 {
     let first = file_in(alloc, outside, template, TEMPLATE_LIMIT)?;
@@ -84,6 +86,7 @@ pub fn document_in<O: Outside>(
     ensures fault { IsErrOf result Stopped.File → Rose (O.faults outside.old) (O.faults outside.new) }
     ensures kept { OnOk result (O.faults outside.new ≡ O.faults outside.old) }
     ensures input { result ≢ Err Stopped.Input }
+    ensures keeper { result ≢ Err Stopped.Keeper }
     ensures output { result ≢ Err Stopped.Output }
 {
     file_in(alloc, outside, name, DOCUMENT_LIMIT)

@@ -6,7 +6,7 @@
 //! whether the file is a definition of an API.
 //!
 //! ```text
-//! let status = run(alloc, &words, &mut input, &mut output, &mut outside);
+//! let status = run(rt, alloc, &words, &mut input, &mut output, &mut outside);
 //! ```
 //!
 //! | `render` of this template over the body `Ann` | prints |
@@ -26,7 +26,7 @@
 //! What is promised: what `run` writes and answers is the outcome of its words, of its input and of the files, a definition
 //! that speaks of every script (`Plays` of `play_script`), of every two files (`specs/Render.antt`) and of every document
 //! (`specs/Check.antt`) to the byte, or a front of it where memory is wanting or the input, the output or a file fails; the
-//! program tells such a fault only where a count of faults rose in the call.
+//! program tells such a fault only where a count of faults rose in the call, or where the script tells its keeper's load to fail.
 #![tactic(auto)]
 
 mod adapters;
@@ -45,6 +45,6 @@ mod words;
 
 pub use adapters::{DiskOutside, ReaderSource, WriterSink};
 pub use outside::Outside;
-pub use play_script::play_within;
+pub use play_script::{PlayStop, play_within};
 pub use program::run;
 pub use shelf::MemOutside;

@@ -5,22 +5,23 @@ ghost use Rattle.std.specs.Io.KnownBytes.{IsAtEnd};
 ghost use Rattle.gw_base.specs.Outside.{Rose};
 ghost use Rattle.gw_base.specs.Whole.{AppendsFront};
 ghost use Rattle.gateway_cli.specs.Check.{check_of};
-ghost use Rattle.gateway_cli.specs.Commands.{Outcome, OutcomeFront, usage, is_command, is_over_files, is_play as is_play_of, over_files as over_files_of};
-ghost use Rattle.play_script.specs.Play.{Played, PlayedFront, SaysFront, is_command_status};
+ghost use Rattle.gateway_cli.specs.Commands.{Outcome, OutcomeFront, TellsLoadToFail, usage, is_command, is_over_files, is_play as is_play_of, over_files as over_files_of};
+ghost use Rattle.play_script.specs.Play.{Played, PlayedFront, FailsToLoad, SaysFront, is_command_status};
 ghost use Rattle.gateway_cli.specs.Render.{render_of};
-ghost use Rattle.gateway_cli.specs.Top.{OfTold, Answered, Says, Faulted};
+ghost use Rattle.gateway_cli.specs.Top.{OfTold, Answered, Says, Faulted, play_stopped_by};
 
 use crate::check::check_within;
 use crate::files::{document_in, files_in};
 use crate::outside::Outside;
 use crate::render::judge;
-use crate::say::{say, say_fault, stop_of};
+use crate::say::{say, say_fault};
 use crate::stopped::Stopped;
 use crate::words::{check_name, is_play, render_names};
+use book_rules::Limits;
 use gw_base::{ReadAll, Sink, Source, Text, read_all};
-use play_book::Limits;
-use play_script::play_within;
+use play_script::{PlayStop, play_within};
 use std::alloc::Global;
+use std::sync::Wait;
 
 /// The limits of a session.
 const SESSION_LIMITS: Limits = Limits {
@@ -31,17 +32,34 @@ const SESSION_LIMITS: Limits = Limits {
 /// The most bytes of a script.
 const SCRIPT_LIMIT: usize = 67_108_864;
 
+// Why the program stops where a play does.
+fn stop_of(stop: PlayStop) -> Stopped
+    ensures { result ≡ play_stopped_by stop }
+{
+    match stop {
+        PlayStop::Keeper => Stopped::Keeper,
+        PlayStop::Output => Stopped::Output,
+        PlayStop::Memory => Stopped::Memory,
+    }
+}
+
 // Plays a script that was read.
-fn play_script<W: Sink>(alloc: Global, script: &[u8], output: &mut W) -> Result<u8, Stopped>
+fn play_script<W: Sink, R: Wait>(
+    rt: &R,
+    alloc: Global,
+    script: &[u8],
+    output: &mut W,
+) -> Result<u8, Stopped>
     requires { length script.now ≤ 67108864 }
     ensures answered { IfOk result (Says (W.written output.old) (W.written output.new) (Played script.now)) }
     ensures front { OnErr result (SaysFront (W.written output.old) (W.written output.new) (PlayedFront script.now)) }
     ensures known { IfOk result (λ status. is_command_status status ≡ true) }
     ensures input { result ≢ Err Stopped.Input }
     ensures file { result ≢ Err Stopped.File }
+    ensures keeper { IsErrOf result Stopped.Keeper → FailsToLoad script.now }
     ensures output { IsErrOf result Stopped.Output → Rose (W.faults output.old) (W.faults output.new) }
 {
-    match play_within(alloc, SESSION_LIMITS, script, output) {
+    match play_within(rt, alloc, SESSION_LIMITS, script, output) {
         Ok(status) => Ok(status),
         Err(stop) => Err(stop_of(stop)),
     }
@@ -54,23 +72,31 @@ fn say_too_long<W: Sink>(output: &mut W) -> Result<u8, Stopped>
     ensures known { IfOk result (λ status. status ≡ 1) }
     ensures input { result ≢ Err Stopped.Input }
     ensures file { result ≢ Err Stopped.File }
+    ensures keeper { result ≢ Err Stopped.Keeper }
     ensures output { IsErrOf result Stopped.Output → Rose (W.faults output.old) (W.faults output.new) }
 {
     say(output, b"refused TooLong\n", 1)
 }
 
 // Reads a script to its end and plays it.
-fn play<I: Source, W: Sink>(alloc: Global, input: &mut I, output: &mut W) -> Result<u8, Stopped>
+fn play<I: Source, W: Sink, R: Wait>(
+    rt: &R,
+    alloc: Global,
+    input: &mut I,
+    output: &mut W,
+) -> Result<u8, Stopped>
     ensures answered { IfOk result (λ status. OfTold (I.left input.old) (λ script. Says (W.written output.old) (W.written output.new) (Played script) status)) }
     ensures front { OnErr result (OfTold (I.left input.old) (λ script. SaysFront (W.written output.old) (W.written output.new) (PlayedFront script))) }
     ensures known { IfOk result (λ status. is_command_status status ≡ true) }
     ensures read { IfOk result (λ status. status ≡ 0 → IsAtEnd (I.left input.new)) }
     ensures input { IsErrOf result Stopped.Input → Rose (I.faults input.old) (I.faults input.new) }
     ensures file { result ≢ Err Stopped.File }
+    ensures keeper { IsErrOf result Stopped.Keeper → OfTold (I.left input.old) (λ script. FailsToLoad script × SaysFront (W.written output.old) (W.written output.new) (PlayedFront script)) }
+    ensures before_keeper { IsErrOf result Stopped.Keeper → I.faults input.new ≡ I.faults input.old }
     ensures output { IsErrOf result Stopped.Output → Rose (W.faults output.old) (W.faults output.new) × (I.faults input.new ≡ I.faults input.old) }
 {
     match read_all(alloc, input, SCRIPT_LIMIT) {
-        Ok(script) => play_script(alloc, &script, output),
+        Ok(script) => play_script(rt, alloc, &script, output),
         Err(ReadAll::TooLong) => say_too_long(output),
         Err(ReadAll::Fault) => Err(Stopped::Input),
         Err(ReadAll::Memory) => Err(Stopped::Memory),
@@ -90,6 +116,7 @@ fn render<W: Sink, O: Outside>(
     ensures known { IfOk result (λ status. is_command_status status ≡ true) }
     ensures input { result ≢ Err Stopped.Input }
     ensures file { IsErrOf result Stopped.File → Rose (O.faults outside.old) (O.faults outside.new) }
+    ensures keeper { result ≢ Err Stopped.Keeper }
     ensures output { IsErrOf result Stopped.Output → Rose (W.faults output.old) (W.faults output.new) × (O.faults outside.new ≡ O.faults outside.old) }
 {
     let (template, body) = files_in(alloc, outside, template, body)?;
@@ -109,6 +136,7 @@ fn check<W: Sink, O: Outside>(
     ensures known { IfOk result (λ status. is_command_status status ≡ true) }
     ensures input { result ≢ Err Stopped.Input }
     ensures file { IsErrOf result Stopped.File → Rose (O.faults outside.old) (O.faults outside.new) }
+    ensures keeper { result ≢ Err Stopped.Keeper }
     ensures output { IsErrOf result Stopped.Output → Rose (W.faults output.old) (W.faults output.new) × (O.faults outside.new ≡ O.faults outside.old) }
 {
     let document = document_in(alloc, outside, name)?;
@@ -123,6 +151,7 @@ fn say_usage<W: Sink>(output: &mut W) -> Result<u8, Stopped>
     ensures known { IfOk result (λ status. status ≡ 2) }
     ensures input { result ≢ Err Stopped.Input }
     ensures file { result ≢ Err Stopped.File }
+    ensures keeper { result ≢ Err Stopped.Keeper }
     ensures output { IsErrOf result Stopped.Output → Rose (W.faults output.old) (W.faults output.new) }
 {
     say(output, b"usage\n", 2)
@@ -140,6 +169,7 @@ fn over_files<W: Sink, O: Outside>(
     ensures known { IfOk result (λ status. MatchBool (is_over_files words.now) (is_command_status status ≡ true) (status ≡ 2)) }
     ensures input { result ≢ Err Stopped.Input }
     ensures file { IsErrOf result Stopped.File → Rose (O.faults outside.old) (O.faults outside.new) }
+    ensures keeper { result ≢ Err Stopped.Keeper }
     ensures output { IsErrOf result Stopped.Output → Rose (W.faults output.old) (W.faults output.new) × (O.faults outside.new ≡ O.faults outside.old) }
 {
     if let Some((template, body)) = render_names(words) {
@@ -152,7 +182,8 @@ fn over_files<W: Sink, O: Outside>(
 }
 
 // Does what the words say.
-fn respond<I: Source, W: Sink, O: Outside>(
+fn respond<I: Source, W: Sink, O: Outside, R: Wait>(
+    rt: &R,
     alloc: Global,
     words: &[Text],
     input: &mut I,
@@ -168,18 +199,22 @@ fn respond<I: Source, W: Sink, O: Outside>(
     ensures unread { is_play_of words.now ≡ false → I.left input.new ≡ I.left input.old }
     ensures input { IsErrOf result Stopped.Input → Rose (I.faults input.old) (I.faults input.new) }
     ensures file { IsErrOf result Stopped.File → Rose (O.faults outside.old) (O.faults outside.new) × (I.faults input.new ≡ I.faults input.old) }
+    ensures keeper { IsErrOf result Stopped.Keeper → OfTold (I.left input.old) (λ script. OfTold (O.files outside.old) (λ files.
+        TellsLoadToFail words.now script × SaysFront (W.written output.old) (W.written output.new) (OutcomeFront words.now script files))) }
+    ensures before_keeper { IsErrOf result Stopped.Keeper → (I.faults input.new ≡ I.faults input.old) × (O.faults outside.new ≡ O.faults outside.old) }
     ensures output { IsErrOf result Stopped.Output → Rose (W.faults output.old) (W.faults output.new) × (I.faults input.new ≡ I.faults input.old) × (O.faults outside.new ≡ O.faults outside.old) }
 {
     if is_play(words) {
-        return play(alloc, input, output);
+        return play(rt, alloc, input, output);
     }
     over_files(alloc, words, output, outside)
 }
 
 /// Does what the words say, and answers the status: 0 done, 1 a line, the script, a template or a document was refused or
-/// a render stopped, 2 the words are none of a command, 3 the input, the output or a file failed, 4 the session is full, 5 memory is
-/// wanting. The words are those behind the program's name.
-pub fn run<I: Source, W: Sink, O: Outside>(
+/// a render stopped, 2 the words are none of a command, 3 the input, the output or a file failed, or a script told its keeper's
+/// load to fail, 4 the session is full, 5 memory is wanting. The words are those behind the program's name.
+pub fn run<I: Source, W: Sink, O: Outside, R: Wait>(
+    rt: &R,
     alloc: Global,
     words: &[Text],
     input: &mut I,
@@ -194,13 +229,15 @@ pub fn run<I: Source, W: Sink, O: Outside>(
     ensures memory { result ≡ 5 → OfTold (I.left input.old) (λ script. OfTold (O.files outside.old) (λ files.
         SaysFront (W.written output.old) (W.written output.new) (OutcomeFront words.now script files))) }
 
-    // A fault comes only where a count rose in this call: of the input, the files and the output, the first in this order is
-    // the cause. A front is written, and then a front of the one line that names it, also where that line's own write fails.
+    // A fault comes only where a count rose in this call, of the input, the files or the output, or where the script told the
+    // keeper's load to fail: the first in the order in which they come is the cause. A front is written, and then a front of
+    // the one line that names it, also where that line's own write fails.
     ensures fault { result ≡ 3 → OfTold (I.left input.old) (λ script. OfTold (O.files outside.old) (λ files.
         Faulted (W.written output.old) (W.written output.new) (OutcomeFront words.now script files)
         (record { before = I.faults input.old; now = I.faults input.new })
         (record { before = O.faults outside.old; now = O.faults outside.new })
-        (record { before = W.faults output.old; now = W.faults output.new }))) }
+        (record { before = W.faults output.old; now = W.faults output.new })
+        (TellsLoadToFail words.now script))) }
 
     // Words of no command, and no others, are told so.
     ensures usage { result ≡ 2 → is_command words.now ≡ false }
@@ -213,7 +250,7 @@ pub fn run<I: Source, W: Sink, O: Outside>(
     // No other status is answered.
     ensures known { result ≤ 5 }
 {
-    match respond(alloc, words, input, output, outside) {
+    match respond(rt, alloc, words, input, output, outside) {
         Ok(status) => status,
         Err(Stopped::Memory) => 5,
         Err(Stopped::Input) => {
@@ -222,6 +259,10 @@ pub fn run<I: Source, W: Sink, O: Outside>(
         }
         Err(Stopped::File) => {
             say_fault(output, b"fault file\n");
+            3
+        }
+        Err(Stopped::Keeper) => {
+            say_fault(output, b"fault keeper\n");
             3
         }
         Err(Stopped::Output) => {

@@ -25,6 +25,7 @@ pub fn say<W: Sink>(output: &mut W, text: &[u8], status: u8) -> Result<u8, Stopp
     ensures front { AppendsFront (W.written output.old) (W.written output.new) text.now }
     ensures input { result ≢ Err Stopped.Input }
     ensures file { result ≢ Err Stopped.File }
+    ensures keeper { result ≢ Err Stopped.Keeper }
     ensures output { IsErrOf result Stopped.Output → Rose (W.faults output.old) (W.faults output.new) }
 {
     match write_all(output, text) {

@@ -10,6 +10,8 @@ pub enum Stopped {
     Input,
     /// A file could not be had.
     File,
+    /// The load of a play's keeper failed, as the script tells.
+    Keeper,
     /// A write of the output failed.
     Output,
     /// Memory is wanting.

@@ -1,7 +1,7 @@
 -- How a connection goes on, message by message.
 use Rattle.std.proofs.Common.{◌≡◌, ℕ, ◌+◌, ◌≤◌, Bool, true, false, ◌||◌, ◌==◌, List, [], ◌∷◌, ◌++◌, Some, None, Result, Ok, Err, refl, sym, ap, subst, append_assoc, arith}
-use Rattle.play_book.specs.History.{Base}
-use Rattle.play_book.specs.declared.events.Entry.{Entry}
+use Rattle.book_rules.specs.History.{Base}
+use Rattle.book_rules.specs.declared.events.Entry.{Entry}
 use Rattle.call_facts.specs.declared.request.Request.{Request}
 use Rattle.http_edge.specs.Answers.{edge_bytes}
 use Rattle.http_edge.specs.Messages.{IsNext, Comes}

@@ -1,2 +1,3 @@
 mod Going
 pub mod Once
+mod Taking

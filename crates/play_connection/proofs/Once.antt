@@ -1,7 +1,7 @@
 -- A connection comes to one thing.
 use Rattle.std.proofs.Common.{◌≡◌, ℕ, ◌+◌, Bool, true, false, List, [], ◌∷◌, Some, Result, Ok, Err, refl, sym, ap, ◌∙◌, subst}
-use Rattle.play_book.specs.History.{Base}
-use Rattle.play_book.specs.declared.events.Entry.{Entry}
+use Rattle.book_rules.specs.History.{Base}
+use Rattle.book_rules.specs.declared.events.Entry.{Entry}
 use Rattle.call_facts.specs.declared.request.Request.{Request}
 use Rattle.http_edge.proofs.NextUnique.{next_unique}
 use Rattle.http_edge.specs.declared.incoming.Incoming.{Incoming}

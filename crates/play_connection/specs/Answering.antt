@@ -1,8 +1,8 @@
 -- The answer to a message, and its cause.
 use Rattle.std.specs.Prelude.{ℕ, Bool, true, false, List, [], None}
-use Rattle.play_book.specs.declared.replies.Reply.{Reply}
-use Rattle.play_book.specs.declared.replies.Reply.TheVariants.{Entered}
-use Rattle.play_book.specs.declared.replies.View.{View}
+use Rattle.book_rules.specs.declared.replies.Reply.{Reply}
+use Rattle.book_rules.specs.declared.replies.Reply.TheVariants.{Entered}
+use Rattle.book_rules.specs.declared.replies.View.{View}
 use Rattle.call_facts.specs.declared.facts.CallFacts.{CallFacts}
 use Rattle.call_facts.specs.declared.kind.Kind.TheVariants.{ApiConfigurationError, RequestTooLarge, UnknownStage}
 use Rattle.call_facts.specs.declared.request.Request.{Request}

@@ -1,7 +1,7 @@
 -- A connection, message by message.
 use Rattle.std.specs.Prelude.{◌≡◌, ℕ, ◌+◌, Bool, true, false, List, [], ◌∷◌, ◌++◌, Option, Some, None, Result, Ok, Err}
-use Rattle.play_book.specs.History.{Base}
-use Rattle.play_book.specs.declared.events.Entry.{Entry}
+use Rattle.book_rules.specs.History.{Base}
+use Rattle.book_rules.specs.declared.events.Entry.{Entry}
 use Rattle.call_facts.specs.declared.request.Request.{Request}
 use Rattle.http_edge.specs.Answers.{edge_bytes}
 use Rattle.http_edge.specs.Messages.{IsNext}

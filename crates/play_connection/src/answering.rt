@@ -1,12 +1,12 @@
 // The answer to a message, and its cause.
 ghost use Rattle.std.specs.Prelude.{◌≡◌, ◌≢◌, ◌<◌, [], Some, None, Ok, Err, IfOk};
-ghost use Rattle.play_book.specs.Times.{IsInTime};
+ghost use Rattle.book_rules.specs.Times.{IsInTime};
 ghost use Rattle.play_connection.specs.Answering.{facts_of as facts_of_view, made_at, made_by, made_for};
 
+use book_rules::{Reply, View};
 use call_facts::{CallFacts, Kind, Request, Target};
 use gw_base::{Memory, Text};
 use method_flow::{Made, answer_itself, answer_text};
-use play_book::{Reply, View};
 use std::alloc::Global;
 
 // What is known of a call to a stage that has this view.

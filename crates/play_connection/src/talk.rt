@@ -6,12 +6,13 @@ ghost use Rattle.play_connection.specs.Talks.{Connects, edge_end as edge_end_of,
 
 use crate::ended::Ended;
 use crate::serving::serve;
+use crate::session::Session;
 use crate::slice_source::SliceSource;
 use call_facts::Request;
 use gw_base::{Bytes, Memory};
 use http_edge::{Buffer, EdgeFault, Incoming, busy_answer, edge_answer, next_message};
-use play_book::Book;
 use std::alloc::Global;
+use std::sync::Wait;
 
 /// What a connection came to: all bytes that were written on it, and how it ended.
 #[derive(Drop)]
@@ -55,17 +56,17 @@ fn end_talk(written: Vec<u8>, ended: Ended) -> Talk
     }
 }
 
-/// Serves the messages in the bytes of a connection, each at this moment and with this word, as seat 0 of the book. On want
+/// Serves the messages in the bytes of a connection, each at this moment and with this word, as the one seat of the session. On want
 /// of memory some of its entries may have been made.
-pub fn connect(
-    book: &mut Book,
+pub fn connect<R: Wait>(
+    session: &mut Session<'_, R>,
     alloc: Global,
     moment: u64,
     word: u64,
     bytes: &[u8],
 ) -> Result<Talk, Memory>
-    ensures talks { IfOk result (λ t. Connects book.old.base moment word book.old.history bytes.now (record { history = book.new.history; written = t.written; ended = t.ended })) }
-    ensures base { book.new.base ≡ book.old.base }
+    ensures talks { IfOk result (λ t. Connects session.old.base moment word session.old.history bytes.now (record { history = session.new.history; written = t.written; ended = t.ended })) }
+    ensures base { session.new.base ≡ session.old.base }
 {
     let mut source = SliceSource::new(bytes);
     let mut rest = Buffer::new(alloc);
@@ -85,7 +86,7 @@ pub fn connect(
         let Some((too_large, request)) = request_of(incoming) else {
             return Ok(end_talk(written, Ended::Closed));
         };
-        match serve(book, alloc, moment, word, number, too_large, &request)? {
+        match serve(session, alloc, moment, word, number, too_large, &request)? {
             Ok(exchange) => {
                 written.extend_from_slice(exchange.bytes.as_slice())?;
                 if exchange.closes {

@@ -8,3 +8,5 @@ pub mod Play
 pub mod Printed
 -- the records of a script
 pub mod Records
+-- why a play stops before its end
+pub mod Stops

@@ -4,31 +4,28 @@ use Rattle.std.specs.Io.KnownBytes.{Appends}
 use Rattle.vtl_grammar.specs.Templates.{read_of}
 use Rattle.vtl_grammar.specs.Tree.{Items}
 use Rattle.vtl_grammar.specs.declared.fault.TemplateFault.{TemplateFault}
-use Rattle.play_book.specs.Rows.{no_rows}
-use Rattle.play_book.specs.History.{Base, reply}
-use Rattle.play_book.specs.declared.events.Limits.{Limits}
-use Rattle.play_book.specs.declared.events.Command.{Command}
-use Rattle.play_book.specs.declared.events.Command.TheVariants as command
-use Rattle.play_book.specs.declared.events.Event.TheVariants.{Admin}
-use Rattle.play_book.specs.declared.events.Entry.{Entry}
-use Rattle.play_book.specs.declared.replies.Reply.{Reply}
-use Rattle.play_connection.specs.Serving.{taken}
+use Rattle.gw_base.specs.Feed.{is_listed}
+use Rattle.book_rules.specs.History.{Base}
+use Rattle.book_rules.specs.declared.events.Limits.{Limits}
+use Rattle.book_rules.specs.declared.events.Command.{Command}
+use Rattle.book_rules.specs.declared.events.Command.TheVariants as command
+use Rattle.book_rules.specs.declared.events.Event.TheVariants.{Admin}
+use Rattle.book_rules.specs.declared.events.Entry.{Entry}
+use Rattle.book_rules.specs.declared.replies.Reply.{Reply}
+use Rattle.play_connection.specs.Serving.{reply_at, taken}
+use Rattle.play_connection.specs.Sessions.{base_of}
 use Rattle.play_connection.specs.Talks.{Said, Connects}
 use Rattle.play_connection.specs.declared.ended.SessionFull.{SessionFull}
 use Rattle.play_script.specs.Calls.{post_bytes, AreOutcomes, BreaksOutcomes, end_of, connection_lines}
 use Rattle.play_script.specs.Coding.{lines_of, is_passed_over}
 use Rattle.play_script.specs.Printed.{line_feed, reply_line, refused_line, full_line}
-use Rattle.play_script.specs.Records.{record_in}
+use Rattle.play_script.specs.Records.{fails_in, record_in}
 use Rattle.play_script.specs.declared.records.Record.{Record}
-use Rattle.play_script.specs.declared.records.Record.TheVariants.{PutText, Deploy, PutStage, Post, Call}
+use Rattle.play_script.specs.declared.records.Record.TheVariants.{PutText, Deploy, PutStage, Shutdown, Post, Call}
 use Rattle.play_script.specs.declared.records.LineFault.{LineFault}
 use Rattle.play_script.specs.declared.records.LineFault.TheVariants.{BadRecord, Template}
 use Rattle.play_script.specs.declared.turns.End.{End}
 use Rattle.play_script.specs.declared.turns.End.TheVariants as ends
-
--- A session begins with empty tables, and has limits.
-abbrev pub base_of : Limits → Base
-base_of limits = record { opening = no_rows; limits = limits }
 
 -- what a line leaves and prints, and why the play ends there, where it does
 pub record Turn : Type 0 where
@@ -41,9 +38,9 @@ abbrev pub commanded_by : Result (List Entry) SessionFull → List Entry → Rep
 commanded_by (Ok after) history told = record { history = after; text = reply_line told; ends = None }
 commanded_by (Err full) history told = record { history = history; text = full_line full; ends = Some ends.Full }
 
-unfoldable pub commanded : Limits → List Entry → ℕ → Command → Turn
-commanded limits history moment asked =
-    commanded_by (taken limits history (Admin moment asked)) history (reply no_rows history (Admin moment asked) true)
+unfoldable pub commanded : Base → List Entry → ℕ → Command → Turn
+commanded base history moment asked =
+    commanded_by (taken base history (Admin moment asked)) history (reply_at base history (Admin moment asked))
 
 -- a line that is refused ends the play
 abbrev pub refused : ℕ → List Entry → LineFault → Turn
@@ -54,43 +51,44 @@ abbrev pub put_api : List ℕ → List ℕ → Command
 put_api api template = command.PutApi api (record { is_text = true; source = template })
 
 -- a text API is put where its template is read
-abbrev pub put_text : Limits → ℕ → List Entry → ℕ → List ℕ → List ℕ → Result Items TemplateFault → Turn
-put_text limits number history moment api template (Ok items) = commanded limits history moment (put_api api template)
-put_text limits number history moment api template (Err fault) = refused number history (Template fault)
+abbrev pub put_text : Base → ℕ → List Entry → ℕ → List ℕ → List ℕ → Result Items TemplateFault → Turn
+put_text base number history moment api template (Ok items) = commanded base history moment (put_api api template)
+put_text base number history moment api template (Err fault) = refused number history (Template fault)
 
 -- what a connection came to
 abbrev pub talked : Said → Turn
 talked said = record { history = said.history; text = connection_lines said.written said.ended; ends = end_of said.ended }
 
 -- a connection with these bytes
-abbrev pub IsTalk : Limits → List Entry → ℕ → ℕ → List ℕ → Turn → Type 0
-IsTalk limits history moment word bytes now = (said : Said) × Connects (base_of limits) moment word history bytes said × (now ≡ talked said)
+abbrev pub IsTalk : Base → List Entry → ℕ → ℕ → List ℕ → Turn → Type 0
+IsTalk base history moment word bytes now = (said : Said) × Connects base moment word history bytes said × (now ≡ talked said)
 
 -- a connection whose outcomes have their form, or a line that is refused
-abbrev pub IsCall : Limits → ℕ → List Entry → ℕ → ℕ → List ℕ → List (List ℕ) → Turn → Type 0
-IsCall limits number history moment word bytes outcomes now =
-    (AreOutcomes outcomes × IsTalk limits history moment word bytes now) ⊎ (BreaksOutcomes outcomes × (now ≡ refused number history BadRecord))
+abbrev pub IsCall : Base → ℕ → List Entry → ℕ → ℕ → List ℕ → List (List ℕ) → Turn → Type 0
+IsCall base number history moment word bytes outcomes now =
+    (AreOutcomes outcomes × IsTalk base history moment word bytes now) ⊎ (BreaksOutcomes outcomes × (now ≡ refused number history BadRecord))
 
 -- what a record does
-abbrev pub Does : Limits → ℕ → List Entry → Record → Turn → Type 0
-Does limits number history (PutText moment api template) now = now ≡ put_text limits number history moment api template (read_of template)
-Does limits number history (Deploy moment api) now = now ≡ commanded limits history moment (command.Deploy api)
-Does limits number history (PutStage moment api stage deployment variables) now =
-    now ≡ commanded limits history moment (command.PutStage api stage deployment (record { pairs = variables }))
-Does limits number history (Post moment word api stage body) now = IsTalk limits history moment word (post_bytes api stage body) now
-Does limits number history (Call moment word bytes outcomes) now = IsCall limits number history moment word bytes outcomes now
+abbrev pub Does : Base → ℕ → List Entry → Record → Turn → Type 0
+Does base number history (PutText moment api template) now = now ≡ put_text base number history moment api template (read_of template)
+Does base number history (Deploy moment api) now = now ≡ commanded base history moment (command.Deploy api)
+Does base number history (PutStage moment api stage deployment variables) now =
+    now ≡ commanded base history moment (command.PutStage api stage deployment (record { pairs = variables }))
+Does base number history (Shutdown moment) now = now ≡ commanded base history moment command.Shutdown
+Does base number history (Post moment word api stage body) now = IsTalk base history moment word (post_bytes api stage body) now
+Does base number history (Call moment word bytes outcomes) now = IsCall base number history moment word bytes outcomes now
 
-abbrev pub DoesOrNot : Limits → ℕ → List Entry → Result Record LineFault → Turn → Type 0
-DoesOrNot limits number history (Ok found) now = Does limits number history found now
-DoesOrNot limits number history (Err fault) now = now ≡ refused number history fault
+abbrev pub DoesOrNot : Base → ℕ → List Entry → Result Record LineFault → Turn → Type 0
+DoesOrNot base number history (Ok found) now = Does base number history found now
+DoesOrNot base number history (Err fault) now = now ≡ refused number history fault
 
-abbrev pub PassesOrDoes : Limits → ℕ → List Entry → List ℕ → Bool → Turn → Type 0
-PassesOrDoes limits number history line true now = now ≡ record { history = history; text = []; ends = None }
-PassesOrDoes limits number history line false now = DoesOrNot limits number history (record_in line) now
+abbrev pub PassesOrDoes : Base → ℕ → List Entry → List ℕ → Bool → Turn → Type 0
+PassesOrDoes base number history line true now = now ≡ record { history = history; text = []; ends = None }
+PassesOrDoes base number history line false now = DoesOrNot base number history (record_in line) now
 
 -- what the line of this number does after this history
-abbrev pub IsTurn : Limits → ℕ → List Entry → List ℕ → Turn → Type 0
-IsTurn limits number history line now = PassesOrDoes limits number history line (is_passed_over line) now
+abbrev pub IsTurn : Base → ℕ → List Entry → List ℕ → Turn → Type 0
+IsTurn base number history line now = PassesOrDoes base number history line (is_passed_over line) now
 
 -- what is printed, and the status
 pub record Output : Type 0 where
@@ -115,10 +113,10 @@ GoesOn None text further output = (rest : Output) × further rest × (output ≡
 GoesOn (Some end) text further output = output ≡ record { text = text; status = status_at end }
 
 -- what the lines print after this history, the first of them having this number
-abbrev pub Plays : Limits → ℕ → List Entry → List (List ℕ) → Output → Type 0
-Plays limits number history [] output = output ≡ record { text = []; status = 0 }
-Plays limits number history (line ∷ lines) output =
-    (now : Turn) × IsTurn limits number history line now × GoesOn now.ends now.text (Plays limits (number + 1) now.history lines) output
+abbrev pub Plays : Base → ℕ → List Entry → List (List ℕ) → Output → Type 0
+Plays base number history [] output = output ≡ record { text = []; status = 0 }
+Plays base number history (line ∷ lines) output =
+    (now : Turn) × IsTurn base number history line now × GoesOn now.ends now.text (Plays base (number + 1) now.history lines) output
 
 -- a text begins with this
 abbrev pub IsFront : List ℕ → List ℕ → Type 0
@@ -133,11 +131,47 @@ abbrev pub GoesOnInFront : Option End → List ℕ → (List ℕ → Type 0) →
 GoesOnInFront None text further front = (more : List ℕ) × further more × (front ≡ text ++ more)
 GoesOnInFront (Some end) text further front = ⊥
 
-abbrev pub PlaysFront : Limits → ℕ → List Entry → List (List ℕ) → List ℕ → Type 0
-PlaysFront limits number history [] front = front ≡ []
-PlaysFront limits number history (line ∷ lines) front =
-    (front ≡ []) ⊎ ((now : Turn) × IsTurn limits number history line now
-    × (IsFront front now.text ⊎ GoesOnInFront now.ends now.text (PlaysFront limits (number + 1) now.history lines) front))
+abbrev pub PlaysFront : Base → ℕ → List Entry → List (List ℕ) → List ℕ → Type 0
+PlaysFront base number history [] front = front ≡ []
+PlaysFront base number history (line ∷ lines) front =
+    (front ≡ []) ⊎ ((now : Turn) × IsTurn base number history line now
+    × (IsFront front now.text ⊎ GoesOnInFront now.ends now.text (PlaysFront base (number + 1) now.history lines) front))
+
+-- how a play opens: which calls of its keeper fail, and the lines behind that, the first of which has this number
+pub record Opening : Type 0 where
+  pub number : ℕ
+  pub fails : List ℕ
+  pub lines : List (List ℕ)
+
+-- a `keepfails` that is the first record tells which calls fail; where none is, no call does
+abbrev pub opening_by : ℕ → List ℕ → List (List ℕ) → Option (List ℕ) → Opening
+opening_by number line lines None = record { number = number; fails = []; lines = line ∷ lines }
+opening_by number line lines (Some fails) = record { number = number + 1; fails = fails; lines = lines }
+
+abbrev pub opening_from : ℕ → List (List ℕ) → Opening
+opening_from number [] = record { number = number; fails = []; lines = [] }
+opening_from number (line ∷ lines) =
+    if is_passed_over line then opening_from (number + 1) lines else opening_by number line lines (fails_in line)
+
+abbrev pub opening_of : List ℕ → Opening
+opening_of script = opening_from 1 (lines_of script)
+
+-- the load, which is the keeper's call 0, is told to fail
+abbrev pub names_load : Opening → Bool
+names_load opening = is_listed opening.fails 0
+
+-- what a session prints that opens so, where its load is not told to fail
+abbrev pub PlaysOpened : Limits → Opening → Output → Type 0
+PlaysOpened limits opening output =
+    (names_load opening ≡ false) × Plays (base_of limits opening.fails) opening.number [] opening.lines output
+
+-- and a front of it; nothing, where it is
+abbrev pub OpenedFrontBy : Bool → Limits → Opening → List ℕ → Type 0
+OpenedFrontBy true limits opening front = front ≡ []
+OpenedFrontBy false limits opening front = PlaysFront (base_of limits opening.fails) opening.number [] opening.lines front
+
+abbrev pub OpenedFront : Limits → Opening → List ℕ → Type 0
+OpenedFront limits opening front = OpenedFrontBy (names_load opening) limits opening front
 
 -- the limits of a session
 unfoldable pub session_limits : Limits
@@ -152,7 +186,7 @@ too_long = record { text = codes "refused TooLong" ++ line_feed; status = 1 }
 
 abbrev pub PlayedBy : Bool → List ℕ → Output → Type 0
 PlayedBy true script output = output ≡ too_long
-PlayedBy false script output = Plays session_limits 1 [] (lines_of script) output
+PlayedBy false script output = PlaysOpened session_limits (opening_of script) output
 
 -- what a script prints
 unfoldable pub Played : List ℕ → Output → Type 0
@@ -160,7 +194,11 @@ Played script output = PlayedBy (nat_lt script_limit (length script)) script out
 
 abbrev pub PlayedFrontBy : Bool → List ℕ → List ℕ → Type 0
 PlayedFrontBy true script front = IsFront front too_long.text
-PlayedFrontBy false script front = PlaysFront session_limits 1 [] (lines_of script) front
+PlayedFrontBy false script front = OpenedFront session_limits (opening_of script) front
+
+-- a script within its limit, which tells its keeper's load to fail
+unfoldable pub FailsToLoad : List ℕ → Type 0
+FailsToLoad script = (nat_lt script_limit (length script) ≡ false) × (names_load (opening_of script) ≡ true)
 
 -- a front of what a script prints, where it is cut short
 unfoldable pub PlayedFront : List ℕ → List ℕ → Type 0

@@ -3,9 +3,9 @@ use Rattle.std.specs.Prelude.{ℕ, List, [], ◌∷◌, codes}
 use Rattle.std.specs.Fmt.{decimal}
 use Rattle.std.specs.List.{concat}
 use Rattle.vtl_grammar.specs.Printed.{printed}
-use Rattle.play_book.specs.Printed.{refusal_name}
-use Rattle.play_book.specs.declared.replies.Reply.{Reply}
-use Rattle.play_book.specs.declared.replies.Reply.TheVariants.{Entered, NoStage, Store, Left, Done, Deployed, Refused}
+use Rattle.book_rules.specs.Printed.{refusal_name}
+use Rattle.book_rules.specs.declared.replies.Reply.{Reply}
+use Rattle.book_rules.specs.declared.replies.Reply.TheVariants.{Entered, NoStage, Store, Left, Done, Deployed, Refused}
 use Rattle.play_script.specs.declared.records.LineFault.{LineFault}
 use Rattle.play_script.specs.declared.records.LineFault.TheVariants.{BadRecord, NotBuilt, Template}
 use Rattle.play_connection.specs.declared.ended.SessionFull.{SessionFull}

@@ -7,7 +7,7 @@ use Rattle.record_fields.specs.Coding.{fields_of, text_of}
 use Rattle.record_fields.specs.Numbers.{number_of}
 use Rattle.record_fields.specs.Pairs.{pairs_of}
 use Rattle.play_script.specs.declared.records.Record.{Record}
-use Rattle.play_script.specs.declared.records.Record.TheVariants.{PutText, Deploy, PutStage, Post, Call}
+use Rattle.play_script.specs.declared.records.Record.TheVariants.{PutText, Deploy, PutStage, Shutdown, Post, Call}
 use Rattle.play_script.specs.declared.records.LineFault.{LineFault}
 use Rattle.play_script.specs.declared.records.LineFault.TheVariants.{BadRecord, NotBuilt}
 
@@ -43,6 +43,11 @@ stage_record m a s d fields = do
   variables ← pairs_of fields
   Ok (PutStage moment api stage deployment variables)
 
+unfoldable pub shutdown_record : List ℕ → Reading
+shutdown_record m = do
+  moment ← number_of 64 m
+  Ok (Shutdown moment)
+
 -- a call's API and stage are names
 abbrev pub called : List ℕ → List ℕ → Record → Reading
 called api stage found = if is_name api && is_name stage then Ok found else Err BadRecord
@@ -75,6 +80,10 @@ abbrev pub stage_fields : List (List ℕ) → Reading
 stage_fields (m ∷ a ∷ s ∷ d ∷ variables) = stage_record m a s d variables
 stage_fields fields = Err BadRecord
 
+abbrev pub shutdown_fields : List (List ℕ) → Reading
+shutdown_fields (m ∷ []) = shutdown_record m
+shutdown_fields fields = Err BadRecord
+
 abbrev pub post_fields : List (List ℕ) → Reading
 post_fields (m ∷ w ∷ a ∷ s ∷ b ∷ []) = post_record m w a s b
 post_fields fields = Err BadRecord
@@ -86,10 +95,9 @@ call_fields fields = Err BadRecord
 -- the records that are held back
 unfoldable pub is_held_back : List ℕ → Bool
 is_held_back name =
-    bytes_eq name (codes "keepfails") || bytes_eq name (codes "api") || bytes_eq name (codes "canary")
-    || bytes_eq name (codes "promote") || bytes_eq name (codes "key") || bytes_eq name (codes "plan")
-    || bytes_eq name (codes "join") || bytes_eq name (codes "grant") || bytes_eq name (codes "flush")
-    || bytes_eq name (codes "usage") || bytes_eq name (codes "shutdown")
+    bytes_eq name (codes "api") || bytes_eq name (codes "canary") || bytes_eq name (codes "promote")
+    || bytes_eq name (codes "key") || bytes_eq name (codes "plan") || bytes_eq name (codes "join")
+    || bytes_eq name (codes "grant") || bytes_eq name (codes "flush") || bytes_eq name (codes "usage")
 
 -- the record of these fields, the first of which is its name
 unfoldable pub record_of : List (List ℕ) → Reading
@@ -98,6 +106,7 @@ record_of (name ∷ fields) =
     if bytes_eq name (codes "text") then text_fields fields
     else if bytes_eq name (codes "deploy") then deploy_fields fields
     else if bytes_eq name (codes "stage") then stage_fields fields
+    else if bytes_eq name (codes "shutdown") then shutdown_fields fields
     else if bytes_eq name (codes "post") then post_fields fields
     else if bytes_eq name (codes "call") then call_fields fields
     else if is_held_back name then Err NotBuilt
@@ -110,3 +119,19 @@ record_in_fields (Some fields) = record_of fields
 
 abbrev pub record_in : List ℕ → Reading
 record_in line = record_in_fields (fields_of line)
+
+-- The numbers of a `keepfails`, which is no record where it does not come first: one or more, each of 32 bits.
+abbrev pub numbers_of : List (List ℕ) → Option (List ℕ)
+numbers_of [] = Some []
+numbers_of (field ∷ fields) = option_and_then (λ n. option_map (λ ns. n ∷ ns) (numbers_of fields)) (number_of 32 field)
+
+abbrev pub keepfails_fields : List (List ℕ) → Option (List ℕ)
+keepfails_fields [] = None
+keepfails_fields (field ∷ fields) = numbers_of (field ∷ fields)
+
+unfoldable pub keepfails_of : List (List ℕ) → Option (List ℕ)
+keepfails_of [] = None
+keepfails_of (name ∷ fields) = if bytes_eq name (codes "keepfails") then keepfails_fields fields else None
+
+abbrev pub fails_in : List ℕ → Option (List ℕ)
+fails_in line = option_and_then keepfails_of (fields_of line)

@@ -1,6 +1,5 @@
 // The connections of a script: their bytes, and their lines.
 ghost use Rattle.std.specs.Prelude.{◌≡◌, IfOk};
-ghost use Rattle.play_book.specs.Rows.{no_rows};
 ghost use Rattle.play_script.specs.Calls.{post_target as post_target_of, post_fields as post_fields_of, post_bytes as post_bytes_of, answer_line as answer_line_of, full_lines as full_lines_of, connection_lines as connection_lines_of, end_of as end_of_connection};
 ghost use Rattle.play_script.specs.Play.{IsTalk};
 
@@ -8,10 +7,10 @@ use crate::joining::join;
 use crate::printed::full_line;
 use crate::turns::{End, Said};
 use gw_base::{Memory, Text};
-use play_book::Book;
-use play_connection::{Ended, SessionFull, connect};
+use play_connection::{Ended, Session, SessionFull, connect};
 use record_fields::encode;
 use std::alloc::Global;
+use std::sync::Wait;
 
 #[tactic(auto, unfolding(crate::specs::Calls::post_target))]
 fn post_target(alloc: Global, api: &str, stage: &str) -> Result<Text, Memory>
@@ -102,18 +101,17 @@ fn end_of(ended: Ended) -> Option<End>
 }
 
 /// Serves a connection, and prints what was written on it and how it ended.
-pub fn talk(
-    book: &mut Book,
+pub fn talk<R: Wait>(
+    session: &mut Session<'_, R>,
     alloc: Global,
     moment: u64,
     word: u64,
     bytes: &[u8],
 ) -> Result<Said, Memory>
-    requires { book.old.base.opening ≡ no_rows }
-    ensures does { IfOk result (λ said. IsTalk book.old.base.limits book.old.history moment word bytes.now (record { history = book.new.history; text = said.text; ends = said.ends })) }
-    ensures base { book.new.base ≡ book.old.base }
+    ensures does { IfOk result (λ said. IsTalk session.old.base session.old.history moment word bytes.now (record { history = session.new.history; text = said.text; ends = said.ends })) }
+    ensures base { session.new.base ≡ session.old.base }
 {
-    let talk = connect(book, alloc, moment, word, bytes)?;
+    let talk = connect(session, alloc, moment, word, bytes)?;
     Ok(Said {
         text: connection_lines(alloc, talk.written.as_slice(), talk.ended)?,
         ends: end_of(talk.ended),

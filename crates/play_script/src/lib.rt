@@ -1,4 +1,4 @@
-//! Scripts: calls and commands, line by line, over a book.
+//! Scripts: calls and commands, line by line, over a session.
 //!
 //! [`play_within`] takes a script and an output. It reads the script line by line: each line is a record, whose fields are
 //! parted by one space, and a record is a command of the book or a connection with the bytes of its messages. It prints
@@ -16,12 +16,15 @@
 //! | empty, or begins with `#` | nothing |
 //! | `deploy 0 nope` | `refused NoApi`, and the play goes on |
 //! | `post 0 0 hello v2 Ann` | the 403 answer whose cause is `UNKNOWN_STAGE` |
+//! | `keepfails 1`, and then `text 0 a x` | `store`: the keeper's call 1 fails |
+//! | `keepfails 0` alone | nothing: the load fails, and `play_within` answers `Err(PlayStop::Keeper)` |
 //! | `bogus 1` | `refused line 1 BadRecord at ~`, and the play ends with status 1 |
 //! | `key 0 k v on` | `refused line 1 NotBuilt at ~`, and the play ends with status 1 |
 //! | `stage 0 hello v1 1 env=x` | `done`, and `$stageVariables.env` is `x` in the answers of the stage |
 //!
 //! What is promised: what is written is `Plays` of `specs/Play.antt` to the byte, a definition that speaks of every script,
-//! or a front of it where a write is refused or memory is wanting; `specs/Coding.antt` says which lines it has,
+//! or a front of it where a write is refused or memory is wanting; where the script's `keepfails` names the load, nothing is, and
+//! just that is told (`opening_of`, `names_load`); `specs/Coding.antt` says which lines it has,
 //! `specs/Records.antt` which records they are, and `specs/Printed.antt` and `specs/Calls.antt` what is printed.
 //! [`join`] puts parts of a line together. Fields are coded and read by `record_fields`.
 #![tactic(auto)]
@@ -30,12 +33,15 @@ mod calls;
 mod connections;
 mod fields;
 mod joining;
+mod opening;
 mod outcomes;
 mod play;
 mod printed;
 mod reading;
 mod records;
+mod stops;
 mod turns;
 
 pub use joining::join;
 pub use play::play_within;
+pub use stops::PlayStop;

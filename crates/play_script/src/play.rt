@@ -1,17 +1,20 @@
 // A script, line by line.
-ghost use Rattle.std.specs.Prelude.{◌≡◌, ◌⊎◌, ◌+◌, ◌≤◌, ◌<◌, ◌^◌, ℕ, List, [], true, length, IfOk, IfSome, OnOk, OnErr};
+ghost use Rattle.std.specs.Prelude.{◌≡◌, ◌⊎◌, ◌+◌, ◌≤◌, ◌<◌, ◌^◌, ℕ, List, [], true, false, length, IfOk, IfErr, IfSome, OnOk, OnErr, IsErrOf};
 ghost use Rattle.std.specs.Io.KnownBytes.{Appends};
-ghost use Rattle.gw_base.specs.Outside.{HasWriteCause};
-ghost use Rattle.play_book.specs.Rows.{no_rows};
-ghost use Rattle.play_script.specs.Coding.{lines_of};
-ghost use Rattle.play_script.specs.Play.{Turn, Output, IsTurn, IsFront, Plays, PlaysFront, status_at, SaysFront, is_command_status};
+ghost use Rattle.gw_base.specs.Outside.{HasWriteCause, Rose};
+ghost use Rattle.play_script.specs.Coding.{lines_left, lines_of};
+ghost use Rattle.play_script.specs.Play.{Turn, IsTurn, IsFront, Plays, PlaysFront, PlaysOpened, OpenedFront, opening_of, names_load, status_at, SaysFront, is_command_status};
 
 use crate::calls::play_line;
 use crate::fields::first_line;
+use crate::opening::open;
+use crate::stops::PlayStop;
 use crate::turns::End;
+use book_rules::Limits;
 use gw_base::{Sink, WriteStop, write_all};
-use play_book::{Book, Limits};
+use play_connection::Session;
 use std::alloc::Global;
+use std::sync::Wait;
 
 fn status(end: End) -> u8
     ensures value { result ≡ status_at end }
@@ -24,49 +27,46 @@ fn status(end: End) -> u8
 }
 
 // Plays a line and prints what it says; answers why the play ends there, where it does.
-fn say_line<W: Sink>(
+fn say_line<W: Sink, R: Wait>(
     alloc: Global,
-    book: &mut Book,
+    session: &mut Session<'_, R>,
     output: &mut W,
     number: u64,
     line: &[u8],
 ) -> Result<Option<End>, WriteStop>
-    requires { book.old.base.opening ≡ no_rows }
-    ensures said { IfOk result (λ ends. (text : List ℕ) × IsTurn book.old.base.limits number book.old.history line.now (record { history = book.new.history; text = text; ends = ends })
+    ensures said { IfOk result (λ ends. (text : List ℕ) × IsTurn session.old.base number session.old.history line.now (record { history = session.new.history; text = text; ends = ends })
         × Appends (W.written output.old) (W.written output.new) text) }
     ensures front { OnErr result (SaysFront (W.written output.old) (W.written output.new)
-        (λ front. (front ≡ []) ⊎ ((now : Turn) × IsTurn book.old.base.limits number book.old.history line.now now × IsFront front now.text))) }
+        (λ front. (front ≡ []) ⊎ ((now : Turn) × IsTurn session.old.base number session.old.history line.now now × IsFront front now.text))) }
     ensures cause { HasWriteCause (W.faults output.old) (W.faults output.new) result }
-    ensures base { book.new.base ≡ book.old.base }
+    ensures base { session.new.base ≡ session.old.base }
 {
-    let said = play_line(book, alloc, number, line)?;
+    let said = play_line(session, alloc, number, line)?;
     write_all(output, said.text.as_str().as_bytes())?;
     Ok(said.ends)
 }
 
-/// Plays a script in a session of these limits, from empty tables, and answers the status: 0 at its end, 1 at a line that
-/// is refused, 4 where the session is full.
-pub fn play_within<W: Sink>(
+// Plays lines, the first of which has this number.
+fn play_lines<W: Sink, R: Wait>(
     alloc: Global,
-    limits: Limits,
-    script: &[u8],
+    session: &mut Session<'_, R>,
     output: &mut W,
+    number: u64,
+    lines: &[u8],
 ) -> Result<u8, WriteStop>
-    requires { length script.now < 2 ^ 63 }
-    ensures all { IfOk result (λ status. (text : List ℕ) × Plays limits 1 [] (lines_of script.now) (record { text = text; status = status })
+    requires number { number + length lines.now < 2 ^ 64 }
+    requires first { session.old.history ≡ [] }
+    ensures all { IfOk result (λ status. (text : List ℕ) × Plays session.old.base number [] (lines_of lines.now) (record { text = text; status = status })
         × Appends (W.written output.old) (W.written output.new) text) }
     ensures known { IfOk result (λ status. is_command_status status ≡ true) }
-
-    // Where a write is refused, or memory is wanting, a front is written.
-    ensures front { OnErr result (SaysFront (W.written output.old) (W.written output.new) (PlaysFront limits 1 [] (lines_of script.now))) }
+    ensures front { OnErr result (SaysFront (W.written output.old) (W.written output.new) (PlaysFront session.old.base number [] (lines_of lines.now))) }
     ensures cause { HasWriteCause (W.faults output.old) (W.faults output.new) result }
 {
-    let mut book = Book::start(alloc, limits)?;
-    let mut rest = script;
-    let mut number: u64 = 1;
+    let mut rest = lines;
+    let mut number = number;
     'lines: loop {
         let (line, more) = first_line(rest);
-        if let Some(end) = say_line(alloc, &mut book, output, number, line)? {
+        if let Some(end) = say_line(alloc, session, output, number, line)? {
             return Ok(status(end));
         }
         let Some(next) = more else {
@@ -75,4 +75,57 @@ pub fn play_within<W: Sink>(
         rest = next;
         number += 1;
     }
+}
+
+// Plays lines, where there are any.
+fn play_left<W: Sink, R: Wait>(
+    alloc: Global,
+    session: &mut Session<'_, R>,
+    output: &mut W,
+    number: u64,
+    left: Option<&[u8]>,
+) -> Result<u8, WriteStop>
+    requires number { IfSome left (λ lines. number + length lines.now < 2 ^ 64) }
+    requires first { session.old.history ≡ [] }
+    ensures all { IfOk result (λ status. (text : List ℕ) × Plays session.old.base number [] (lines_left left.entry) (record { text = text; status = status })
+        × Appends (W.written output.old) (W.written output.new) text) }
+    ensures known { IfOk result (λ status. is_command_status status ≡ true) }
+    ensures front { OnErr result (SaysFront (W.written output.old) (W.written output.new) (PlaysFront session.old.base number [] (lines_left left.entry))) }
+    ensures cause { HasWriteCause (W.faults output.old) (W.faults output.new) result }
+{
+    match left {
+        Some(lines) => play_lines(alloc, session, output, number, lines),
+        None => Ok(0),
+    }
+}
+
+/// Plays a script in a session of these limits, from empty tables, and answers the status: 0 at its end, 1 at a line that
+/// is refused, 4 where the session is full.
+///
+/// # Errors
+///
+/// [`PlayStop::Keeper`] comes exactly where the script's `keepfails` names the load, unless memory is wanting; nothing is
+/// written then. [`PlayStop::Output`] comes only where the output counted a fault.
+pub fn play_within<W: Sink, R: Wait>(
+    rt: &R,
+    alloc: Global,
+    limits: Limits,
+    script: &[u8],
+    output: &mut W,
+) -> Result<u8, PlayStop>
+    requires { length script.now < 2 ^ 63 }
+    ensures all { IfOk result (λ status. (text : List ℕ) × PlaysOpened limits (opening_of script.now) (record { text = text; status = status })
+        × Appends (W.written output.old) (W.written output.new) text) }
+    ensures known { IfOk result (λ status. is_command_status status ≡ true) }
+
+    // Where the play is cut short, a front is written.
+    ensures front { OnErr result (SaysFront (W.written output.old) (W.written output.new) (OpenedFront limits (opening_of script.now))) }
+    ensures keeper { IsErrOf result PlayStop.Keeper → names_load (opening_of script.now) ≡ true }
+    ensures output { IsErrOf result PlayStop.Output → Rose (W.faults output.old) (W.faults output.new) }
+{
+    let opening = open(alloc, script)?;
+    let mut session = Session::start(rt, alloc, limits, opening.fails)?;
+    let played = play_left(alloc, &mut session, output, opening.number, opening.lines);
+    let _ = session.close();
+    Ok(played?)
 }

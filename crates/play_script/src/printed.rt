@@ -4,8 +4,8 @@ ghost use Rattle.play_script.specs.Printed.{reply_line as reply_line_of, line_fa
 
 use crate::joining::join;
 use crate::records::LineFault;
+use book_rules::Reply;
 use gw_base::{Memory, Text};
-use play_book::Reply;
 use play_connection::SessionFull;
 use std::alloc::Global;
 

@@ -1,6 +1,6 @@
 // The record of a line.
-ghost use Rattle.std.specs.Prelude.{◌≡◌, ◌≢◌, Ok, Err, IfOk};
-ghost use Rattle.play_script.specs.Records.{called as called_of, text_record as text_record_of, deploy_record as deploy_record_of, stage_record as stage_record_of, post_record as post_record_of, call_record as call_record_of, call_fields as call_fields_of, text_fields as text_fields_of, deploy_fields as deploy_fields_of, stage_fields as stage_fields_of, post_fields as post_fields_of, is_held_back as is_held_back_of, record_of as record_of_fields, record_in as record_in_line};
+ghost use Rattle.std.specs.Prelude.{◌≡◌, ◌≢◌, Ok, Err, IfOk, option_map};
+ghost use Rattle.play_script.specs.Records.{called as called_of, text_record as text_record_of, deploy_record as deploy_record_of, stage_record as stage_record_of, shutdown_record as shutdown_record_of, post_record as post_record_of, call_record as call_record_of, call_fields as call_fields_of, text_fields as text_fields_of, deploy_fields as deploy_fields_of, stage_fields as stage_fields_of, shutdown_fields as shutdown_fields_of, post_fields as post_fields_of, is_held_back as is_held_back_of, record_of as record_of_fields, record_in as record_in_line, numbers_of, keepfails_fields as keepfails_fields_of, keepfails_of as keepfails_of_fields, fails_in as fails_in_line};
 
 use crate::records::{LineFault, Record};
 use gw_base::{Bytes, Memory, Seq, is_name};
@@ -76,6 +76,16 @@ fn stage_record(
         deployment,
         variables: Seq::of(variables),
     }))
+}
+
+#[tactic(auto, unfolding(crate::specs::Records::shutdown_record))]
+fn shutdown_record(moment: &[u8]) -> Reading
+    ensures { result ≡ shutdown_record_of moment.now }
+{
+    let Some(moment) = number(moment) else {
+        return Err(LineFault::BadRecord);
+    };
+    Ok(Record::Shutdown { moment })
 }
 
 #[tactic(auto, unfolding(crate::specs::Records::post_record))]
@@ -195,6 +205,15 @@ fn stage_fields(alloc: Global, fields: &[Bytes]) -> Result<Reading, Memory>
     }
 }
 
+fn shutdown_fields(fields: &[Bytes]) -> Reading
+    ensures { result ≡ shutdown_fields_of fields.now }
+{
+    match fields {
+        [m] => shutdown_record(m.as_slice()),
+        _ => Err(LineFault::BadRecord),
+    }
+}
+
 fn post_fields(alloc: Global, fields: &[Bytes]) -> Result<Reading, Memory>
     ensures { IfOk result (λ r. r ≡ post_fields_of fields.now) }
 {
@@ -216,8 +235,7 @@ fn post_fields(alloc: Global, fields: &[Bytes]) -> Result<Reading, Memory>
 fn is_held_back(name: &[u8]) -> bool
     ensures { result ≡ is_held_back_of name.now }
 {
-    name == b"keepfails".as_slice()
-        || name == b"api".as_slice()
+    name == b"api".as_slice()
         || name == b"canary".as_slice()
         || name == b"promote".as_slice()
         || name == b"key".as_slice()
@@ -226,7 +244,6 @@ fn is_held_back(name: &[u8]) -> bool
         || name == b"grant".as_slice()
         || name == b"flush".as_slice()
         || name == b"usage".as_slice()
-        || name == b"shutdown".as_slice()
 }
 
 #[tactic(auto, unfolding(crate::specs::Records::record_of))]
@@ -245,6 +262,9 @@ fn record_of(alloc: Global, fields: &[Bytes]) -> Result<Reading, Memory>
     }
     if name == b"stage".as_slice() {
         return stage_fields(alloc, rest);
+    }
+    if name == b"shutdown".as_slice() {
+        return Ok(shutdown_fields(rest));
     }
     if name == b"post".as_slice() {
         return post_fields(alloc, rest);
@@ -265,5 +285,51 @@ pub fn record_in(alloc: Global, line: &[u8]) -> Result<Reading, Memory>
     match fields_in(alloc, line)? {
         Some(fields) => record_of(alloc, &fields),
         None => Ok(Err(LineFault::BadRecord)),
+    }
+}
+
+fn numbers_in(alloc: Global, fields: &[Bytes]) -> Result<Option<Vec<u32>>, Memory>
+    ensures { IfOk result (λ read. option_map (λ numbers. numbers.items) read ≡ numbers_of fields.now) }
+{
+    let mut numbers = Vec::new(alloc);
+    for field in fields {
+        let Some(number) = small_number(field.as_slice()) else {
+            return Ok(None);
+        };
+        numbers.push(number)?;
+    }
+    Ok(Some(numbers))
+}
+
+fn keepfails_fields(alloc: Global, fields: &[Bytes]) -> Result<Option<Vec<u32>>, Memory>
+    ensures { IfOk result (λ read. option_map (λ numbers. numbers.items) read ≡ keepfails_fields_of fields.now) }
+{
+    match fields {
+        [] => Ok(None),
+        [_, ..] => numbers_in(alloc, fields),
+    }
+}
+
+#[tactic(auto, unfolding(crate::specs::Records::keepfails_of))]
+fn keepfails_of(alloc: Global, fields: &[Bytes]) -> Result<Option<Vec<u32>>, Memory>
+    ensures { IfOk result (λ read. option_map (λ numbers. numbers.items) read ≡ keepfails_of_fields fields.now) }
+{
+    let [name, rest @ ..] = fields else {
+        return Ok(None);
+    };
+    if name.as_slice() == b"keepfails".as_slice() {
+        keepfails_fields(alloc, rest)
+    } else {
+        Ok(None)
+    }
+}
+
+/// The numbers of the keeper's calls that a line tells to fail, where it is a `keepfails`.
+pub fn fails_in(alloc: Global, line: &[u8]) -> Result<Option<Vec<u32>>, Memory>
+    ensures { IfOk result (λ read. option_map (λ numbers. numbers.items) read ≡ fails_in_line line.now) }
+{
+    match fields_in(alloc, line)? {
+        Some(fields) => keepfails_of(alloc, &fields),
+        None => Ok(None),
     }
 }

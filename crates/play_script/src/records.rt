@@ -24,6 +24,10 @@ pub enum Record {
         deployment: u32,
         variables: Seq<(Text, Text)>,
     },
+    /// `shutdown M`: closes the session: from here on each answer is the last one on its connection.
+    Shutdown {
+        moment: u64,
+    },
     /// `post M W API STAGE BODY`: a call of `POST /API/STAGE` with this body.
     Post {
         moment: u64,

@@ -1,8 +1,8 @@
 // Books over keepers in memory.
 use api_model::Api;
-use book_core::{Book, StartFault};
+use book_core::{Book, StartFault, StepFault};
 use book_rules::{Command, Event, Limits, Reply};
-use call_facts::Vars;
+use call_facts::{Kind, Vars};
 use gw_base::{Memory, Seq, Shared, Text};
 use keeper_core::{MemKeeper, Table, Tables};
 use std::alloc::Global;
@@ -47,7 +47,7 @@ fn definition(alloc: Global) -> Result<Shared<Api>, Memory> {
 
 fn variables(alloc: Global) -> Result<Shared<Vars>, Memory> {
     let mut pairs = Seq::new(alloc);
-    for pair in [("x", "1"), ("y", "a b"), ("x", "3")] {
+    for pair in [("x", "1"), ("y", "2"), ("x", "3"), ("z", "4"), ("y", "a b")] {
         pairs.push((text(alloc, pair.0)?, text(alloc, pair.1)?))?;
     }
     Ok(Shared::new(alloc, Vars { pairs })?)
@@ -200,7 +200,7 @@ fn changes_are_kept(rt: HostRuntime) -> Result<(), Fail> {
         played.replies.as_str(),
         "nostage done deployed done entered "
     );
-    assert_eq!(rt; played.vars.as_str(), "y=a%20b x=3");
+    assert_eq!(rt; played.vars.as_str(), "x=3 z=4 y=a%20b");
     assert_eq!(rt; played.calls, 2);
     assert_eq!(rt; played.not_kept, 0);
     Ok(())
@@ -267,6 +267,35 @@ fn a_book_goes_on_over_what_another_left(rt: HostRuntime) -> Result<(), Fail> {
     let played = play_on(rt.alloc(), &before, &[Step::Enter, Step::Deploy])?;
     assert_eq!(rt; played.replies.as_str(), "entered deployed ");
     assert_eq!(rt; played.deployments, 2);
-    assert_eq!(rt; played.vars.as_str(), "y=a%20b x=3");
+    assert_eq!(rt; played.vars.as_str(), "x=3 z=4 y=a%20b");
+    Ok(())
+}
+
+// What a book of one entry answers to a request that leaves.
+fn leave_full(alloc: Global) -> Result<Option<StepFault>, Memory> {
+    let limits = Limits {
+        entries: 1,
+        bytes: 1000,
+    };
+    let keeper = MemKeeper::new(Tables::new(alloc), Vec::new(alloc));
+    let Ok(mut book) = Book::start(alloc, keeper, limits) else {
+        return Err(Memory);
+    };
+    take(&mut book, alloc, Step::Enter)?;
+    let leave = Event::Leave {
+        status: 403,
+        cause: Some(Kind::UnknownStage),
+    };
+    Ok(book.step(alloc, 0, leave).err())
+}
+
+// Enter takes the room, and Leave is refused with the history's numbers.
+#[test]
+fn a_book_of_one_entry_is_full(rt: HostRuntime) -> Result<(), Fail> {
+    let full = StepFault::SessionFull {
+        entries: 1,
+        bytes: 2,
+    };
+    assert_eq!(rt; leave_full(rt.alloc())?, Some(full));
     Ok(())
 }

@@ -2,6 +2,7 @@
 use gateway_cli::{MemOutside, run};
 use gw_base::{MemSink, MemSource, Text};
 use std::alloc::Global;
+use std::sync::Wait;
 use std::test::Fail;
 
 const DEPLOYED: &str = "text 0 hello Hi%20$input.body!\ndeploy 0 hello\nstage 0 hello v1 1\n";
@@ -24,7 +25,7 @@ fn text(alloc: Global, parts: &[&str]) -> Result<String, Fail> {
 }
 
 /// What a script prints behind the three records above, and the status.
-fn played(alloc: Global, rest: &str) -> Result<(u8, MemSink), Fail> {
+fn played<R: Wait>(rt: &R, alloc: Global, rest: &str) -> Result<(u8, MemSink), Fail> {
     let script = text(alloc, &[DEPLOYED, rest])?;
     let mut words = Vec::new(alloc);
     words.push(Text::of(String::from_str(alloc, "play")?))?;
@@ -32,7 +33,7 @@ fn played(alloc: Global, rest: &str) -> Result<(u8, MemSink), Fail> {
     let mut input = MemSource::new(bytes, 4096, Vec::new(alloc));
     let mut output = MemSink::new(alloc, Vec::new(alloc));
     let mut outside = MemOutside::new(Vec::new(alloc), Vec::new(alloc));
-    let status = run(alloc, &words, &mut input, &mut output, &mut outside);
+    let status = run(rt, alloc, &words, &mut input, &mut output, &mut outside);
     Ok((status, output))
 }
 
@@ -125,7 +126,11 @@ fn connections_are_served(rt: HostRuntime) -> Result<(), Fail> {
     for (bytes, answers, ended) in &CALLS {
         let bytes = text(alloc, bytes)?;
         let answers = text(alloc, answers)?;
-        let (status, output) = played(alloc, format!(in alloc; "call 0 0 {bytes}\n")?.as_str())?;
+        let (status, output) = played(
+            &rt,
+            alloc,
+            format!(in alloc; "call 0 0 {bytes}\n")?.as_str(),
+        )?;
         let line = if answers.is_empty() {
             String::new(alloc)
         } else {
@@ -165,7 +170,7 @@ fn outcomes_have_their_form(rt: HostRuntime) -> Result<(), Fail> {
     let alloc = rt.alloc();
     for (fields, taken) in &OUTCOMES {
         let rest = format!(in alloc; "call 0 0 {MESSAGE} {fields}\n")?;
-        let (status, output) = played(alloc, rest.as_str())?;
+        let (status, output) = played(&rt, alloc, rest.as_str())?;
         let said = if *taken {
             format!(in alloc; "done\ndeployed 1\ndone\nanswer {HELLO}\nended Closed\n")?
         } else {
@@ -189,7 +194,7 @@ fn what_is_too_long_is_told(rt: HostRuntime) -> Result<(), Fail> {
         head.push_str("a")?;
     }
     head.push_str("\n")?;
-    let (status, output) = played(alloc, head.as_str())?;
+    let (status, output) = played(&rt, alloc, head.as_str())?;
     assert_eq!(rt; status, 0);
     assert_eq!(rt;
         output.bytes(),
@@ -200,7 +205,7 @@ fn what_is_too_long_is_told(rt: HostRuntime) -> Result<(), Fail> {
         body.push_str("abcdefghijklmnop")?;
     }
     body.push_str("q\n")?;
-    let (status, output) = played(alloc, body.as_str())?;
+    let (status, output) = played(&rt, alloc, body.as_str())?;
     assert_eq!(rt; status, 0);
     assert_eq!(rt;
         output.bytes(),
@@ -224,7 +229,7 @@ fn a_connection_has_a_thousand_answers(rt: HostRuntime) -> Result<(), Fail> {
     rest.push_str("\n")?;
     said.push_str(HELLO_CLOSING)?;
     said.push_str("\nended Closed\n")?;
-    let (status, output) = played(alloc, rest.as_str())?;
+    let (status, output) = played(&rt, alloc, rest.as_str())?;
     assert_eq!(rt; status, 0);
     assert_eq!(rt; output.bytes(), said.as_bytes());
     Ok(())

@@ -4,6 +4,7 @@ use crate::renders::{text, words};
 use gateway_cli::{MemOutside, run};
 use gw_base::{Bytes, MemSink, MemSource};
 use std::alloc::Global;
+use std::sync::Wait;
 use std::test::Fail;
 
 /// The file `d`.
@@ -14,11 +15,16 @@ fn document(alloc: Global, bytes: &[u8], fails: &[u32]) -> Result<MemOutside, Fa
 }
 
 /// What these words answer and print. A read of the input would fail.
-fn told(alloc: Global, from: &[&str], outside: &mut MemOutside) -> Result<(u8, MemSink), Fail> {
+fn told<R: Wait>(
+    rt: &R,
+    alloc: Global,
+    from: &[&str],
+    outside: &mut MemOutside,
+) -> Result<(u8, MemSink), Fail> {
     let mut input = MemSource::new(Vec::new(alloc), 1, Vec::from_slice(alloc, &[0])?);
     let mut output = MemSink::new(alloc, Vec::new(alloc));
     let words = words(alloc, from)?;
-    let status = run(alloc, &words, &mut input, &mut output, outside);
+    let status = run(rt, alloc, &words, &mut input, &mut output, outside);
     Ok((status, output))
 }
 
@@ -80,7 +86,7 @@ fn documents_are_accepted_or_refused(rt: HostRuntime) -> Result<(), Fail> {
     let alloc = rt.alloc();
     for (bytes, said, status) in &ROWS {
         let mut outside = document(alloc, bytes.as_bytes(), &[])?;
-        let (got, output) = told(alloc, &["check", "d"], &mut outside)?;
+        let (got, output) = told(&rt, alloc, &["check", "d"], &mut outside)?;
         assert_eq!(rt; output.bytes(), said.as_bytes(), "at {bytes}");
         assert_eq!(rt; got, *status, "at {bytes}");
     }
@@ -104,7 +110,7 @@ fn whole_apis_are_accepted(rt: HostRuntime) -> Result<(), Fail> {
     ];
     for (bytes, said) in rows {
         let mut outside = document(alloc, bytes.as_bytes(), &[])?;
-        let (status, output) = told(alloc, &["check", "d"], &mut outside)?;
+        let (status, output) = told(&rt, alloc, &["check", "d"], &mut outside)?;
         assert_eq!(rt; output.bytes(), said.as_bytes());
         assert_eq!(rt; status, 0);
     }
@@ -120,7 +126,7 @@ fn a_document_over_its_limit_is_refused(rt: HostRuntime) -> Result<(), Fail> {
         most.push(' ')?;
     }
     let mut outside = document(alloc, most.as_bytes(), &[])?;
-    let (status, output) = told(alloc, &["check", "d"], &mut outside)?;
+    let (status, output) = told(&rt, alloc, &["check", "d"], &mut outside)?;
     assert_eq!(rt;
         output.bytes(),
         b"ok resources=0 methods=0 models=0\n".as_slice()
@@ -128,7 +134,7 @@ fn a_document_over_its_limit_is_refused(rt: HostRuntime) -> Result<(), Fail> {
     assert_eq!(rt; status, 0);
     most.push(' ')?;
     let mut outside = document(alloc, most.as_bytes(), &[])?;
-    let (status, output) = told(alloc, &["check", "d"], &mut outside)?;
+    let (status, output) = told(&rt, alloc, &["check", "d"], &mut outside)?;
     assert_eq!(rt; output.bytes(), b"refused TooLong\n".as_slice());
     assert_eq!(rt; status, 1);
     Ok(())
@@ -139,7 +145,7 @@ fn a_document_that_cannot_be_had_is_told(rt: HostRuntime) -> Result<(), Fail> {
     let alloc = rt.alloc();
     for (name, fails) in [("d", [0_u32]), ("e", [9])] {
         let mut outside = document(alloc, b"{}".as_slice(), &fails)?;
-        let (status, output) = told(alloc, &["check", name], &mut outside)?;
+        let (status, output) = told(&rt, alloc, &["check", name], &mut outside)?;
         assert_eq!(rt; output.bytes(), b"fault file\n".as_slice());
         assert_eq!(rt; status, 3);
     }
@@ -157,7 +163,7 @@ fn words_beside_check_are_told(rt: HostRuntime) -> Result<(), Fail> {
     ];
     for from in rows {
         let mut outside = document(alloc, b"{}".as_slice(), &[])?;
-        let (status, output) = told(alloc, from, &mut outside)?;
+        let (status, output) = told(&rt, alloc, from, &mut outside)?;
         assert_eq!(rt; output.bytes(), b"usage\n".as_slice());
         assert_eq!(rt; status, 2);
     }

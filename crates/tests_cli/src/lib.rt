@@ -4,7 +4,6 @@
 //! | Module | Shows |
 //! |---|---|
 //! | `scripts` | every kind of line, pieces of any size, each read and each write failing once, a full session |
-//! | `books` | a stage keeps each variable once |
 //! | `calls` | connections with several messages, and outcomes |
 //! | `checks` | documents with the lines that `check` prints |
 //! | `renders` | the command `render`: its files, limits and faults |
@@ -13,8 +12,6 @@
 //! | `templates` | texts with the faults of reading them, as another program gave them |
 #![tactic(auto)]
 
-#[cfg(test)]
-mod books;
 #[cfg(test)]
 mod calls;
 #[cfg(test)]

@@ -3,6 +3,7 @@ ghost use Rattle.std.specs.Prelude.{◌<◌};
 use gateway_cli::{MemOutside, Outside, run};
 use gw_base::{Bytes, MemSink, MemSource, ReadAll, Text};
 use std::alloc::Global;
+use std::sync::Wait;
 use std::test::Fail;
 
 pub(crate) fn text(alloc: Global, from: &str) -> Result<Text, Fail> {
@@ -29,11 +30,15 @@ fn files(alloc: Global, template: &[u8], body: &[u8], fails: &[u32]) -> Result<M
 }
 
 /// What `render t b` answers and prints. A read of its input would fail.
-fn rendered(alloc: Global, outside: &mut MemOutside) -> Result<(u8, MemSink), Fail> {
+fn rendered<R: Wait>(
+    rt: &R,
+    alloc: Global,
+    outside: &mut MemOutside,
+) -> Result<(u8, MemSink), Fail> {
     let mut input = MemSource::new(Vec::new(alloc), 1, Vec::from_slice(alloc, &[0])?);
     let mut output = MemSink::new(alloc, Vec::new(alloc));
     let words = words(alloc, &["render", "t", "b"])?;
-    let status = run(alloc, &words, &mut input, &mut output, outside);
+    let status = run(rt, alloc, &words, &mut input, &mut output, outside);
     Ok((status, output))
 }
 
@@ -109,7 +114,7 @@ fn templates_are_rendered(rt: HostRuntime) -> Result<(), Fail> {
     let alloc = rt.alloc();
     for (template, body, said, status) in &ROWS {
         let mut outside = files(alloc, template.as_bytes(), body.as_bytes(), &[])?;
-        let (got, output) = rendered(alloc, &mut outside)?;
+        let (got, output) = rendered(&rt, alloc, &mut outside)?;
         assert_eq!(rt; output.bytes(), said.as_bytes(), "at {template}");
         assert_eq!(rt; got, *status, "at {template}");
     }
@@ -150,7 +155,7 @@ fn documented_templates_are_rendered(rt: HostRuntime) -> Result<(), Fail> {
     let alloc = rt.alloc();
     for (template, body, said, status) in &FURTHER_ROWS {
         let mut outside = files(alloc, template.as_bytes(), body.as_bytes(), &[])?;
-        let (got, output) = rendered(alloc, &mut outside)?;
+        let (got, output) = rendered(&rt, alloc, &mut outside)?;
         assert_eq!(rt; output.bytes(), said.as_bytes(), "at {template}");
         assert_eq!(rt; got, *status, "at {template}");
     }
@@ -169,7 +174,7 @@ fn loops_end_at_the_budget(rt: HostRuntime) -> Result<(), Fail> {
     ];
     for (template, dots) in rows {
         let mut outside = files(alloc, template.as_bytes(), b"", &[])?;
-        let (status, output) = rendered(alloc, &mut outside)?;
+        let (status, output) = rendered(&rt, alloc, &mut outside)?;
         assert_eq!(rt; status, 0);
         assert_eq!(rt; output.bytes().len(), dots);
         assert!(rt; output.bytes().iter().all(|b| *b == b'.'));
@@ -177,7 +182,7 @@ fn loops_end_at_the_budget(rt: HostRuntime) -> Result<(), Fail> {
     let longer =
         "#foreach($i in [1..1000])#foreach($j in [1..995]).#end#end#foreach($k in [1..992]).#end.";
     let mut outside = files(alloc, longer.as_bytes(), b"", &[])?;
-    let (status, output) = rendered(alloc, &mut outside)?;
+    let (status, output) = rendered(&rt, alloc, &mut outside)?;
     assert_eq!(rt; status, 1);
     assert_eq!(rt; output.bytes(), b"stop Steps\n".as_slice());
     Ok(())
@@ -192,32 +197,37 @@ fn bytes_that_are_no_utf_8_are_replaced(rt: HostRuntime) -> Result<(), Fail> {
         b"\xC3(".as_slice(),
         &[],
     )?;
-    let (status, output) = rendered(alloc, &mut outside)?;
+    let (status, output) = rendered(&rt, alloc, &mut outside)?;
     assert_eq!(rt; status, 0);
     assert_eq!(rt; output.bytes(), "a\u{FFFD}\u{FFFD}(".as_bytes());
     Ok(())
 }
 
 /// What `render` answers and prints of a template over a body.
-fn told(alloc: Global, template: &[u8], body: &[u8]) -> Result<(u8, MemSink), Fail> {
+fn told<R: Wait>(
+    rt: &R,
+    alloc: Global,
+    template: &[u8],
+    body: &[u8],
+) -> Result<(u8, MemSink), Fail> {
     let mut outside = files(alloc, template, body, &[])?;
-    rendered(alloc, &mut outside)
+    rendered(rt, alloc, &mut outside)
 }
 
 #[test]
 fn a_template_over_its_limit_is_refused(rt: HostRuntime) -> Result<(), Fail> {
     let alloc = rt.alloc();
     let most = repeated(alloc, "a", 307_200)?;
-    let (status, output) = told(alloc, most.as_bytes(), b"")?;
+    let (status, output) = told(&rt, alloc, most.as_bytes(), b"")?;
     assert_eq!(rt; status, 0);
     assert_eq!(rt; output.bytes(), most.as_bytes());
     let over = repeated(alloc, "a", 307_201)?;
-    let (status, output) = told(alloc, over.as_bytes(), b"")?;
+    let (status, output) = told(&rt, alloc, over.as_bytes(), b"")?;
     assert_eq!(rt; status, 1);
     assert_eq!(rt; output.bytes(), b"refused TooLong\n".as_slice());
     // Each byte stands for three in the text.
     let broken = vec![in alloc; 0xFF_u8; 307_200]?;
-    let (status, output) = told(alloc, &broken, b"")?;
+    let (status, output) = told(&rt, alloc, &broken, b"")?;
     assert_eq!(rt; status, 1);
     assert_eq!(rt; output.bytes(), b"refused TooLong at ~\n".as_slice());
     Ok(())
@@ -228,13 +238,13 @@ fn a_body_over_its_limit_is_refused(rt: HostRuntime) -> Result<(), Fail> {
     let alloc = rt.alloc();
     let length = "#set($b=$input.body)$b.length()";
     let most = repeated(alloc, "abcdefghijklmnop", 655_360)?;
-    let (status, output) = told(alloc, length.as_bytes(), most.as_bytes())?;
+    let (status, output) = told(&rt, alloc, length.as_bytes(), most.as_bytes())?;
     assert_eq!(rt; status, 0);
     assert_eq!(rt; output.bytes(), b"10485760".as_slice());
     let mut over = most;
     over.push('q')?;
     for template in [length, "#if"] {
-        let (status, output) = told(alloc, template.as_bytes(), over.as_bytes())?;
+        let (status, output) = told(&rt, alloc, template.as_bytes(), over.as_bytes())?;
         assert_eq!(rt; status, 1);
         assert_eq!(rt; output.bytes(), b"refused TooLong\n".as_slice());
     }
@@ -246,12 +256,12 @@ fn a_file_that_fails_is_told_before_all_else(rt: HostRuntime) -> Result<(), Fail
     let alloc = rt.alloc();
     for call in 0..2 {
         let mut outside = files(alloc, b"#if($a)".as_slice(), b"", &[call])?;
-        let (status, output) = rendered(alloc, &mut outside)?;
+        let (status, output) = rendered(&rt, alloc, &mut outside)?;
         assert_eq!(rt; status, 3);
         assert_eq!(rt; output.bytes(), b"fault file\n".as_slice());
     }
     let mut later = files(alloc, b"Hi".as_slice(), b"", &[2])?;
-    let (status, output) = rendered(alloc, &mut later)?;
+    let (status, output) = rendered(&rt, alloc, &mut later)?;
     assert_eq!(rt; status, 0);
     assert_eq!(rt; output.bytes(), b"Hi".as_slice());
     for name in ["t", "b"] {
@@ -261,7 +271,7 @@ fn a_file_that_fails_is_told_before_all_else(rt: HostRuntime) -> Result<(), Fail
             Bytes::of(Vec::from_slice(alloc, b"#if")?),
         ))?;
         let mut outside = MemOutside::new(held, Vec::new(alloc));
-        let (status, output) = rendered(alloc, &mut outside)?;
+        let (status, output) = rendered(&rt, alloc, &mut outside)?;
         assert_eq!(rt; status, 3);
         assert_eq!(rt; output.bytes(), b"fault file\n".as_slice());
     }
@@ -276,7 +286,7 @@ fn a_file_may_be_named_twice(rt: HostRuntime) -> Result<(), Fail> {
     let mut output = MemSink::new(alloc, Vec::new(alloc));
     let words = words(alloc, &["render", "t", "t"])?;
     assert_eq!(rt;
-        run(alloc, &words, &mut input, &mut output, &mut outside),
+        run(&rt, alloc, &words, &mut input, &mut output, &mut outside),
         0
     );
     assert_eq!(rt; output.bytes(), b"<<$input.body>>".as_slice());
@@ -299,7 +309,10 @@ fn words_beside_render_are_told(rt: HostRuntime) -> Result<(), Fail> {
         let mut outside = files(alloc, b"Hi".as_slice(), b"", &[])?;
         let mut input = MemSource::new(Vec::new(alloc), 1, Vec::new(alloc));
         let mut output = MemSink::new(alloc, Vec::new(alloc));
-        assert_eq!(rt; run(alloc, words, &mut input, &mut output, &mut outside), 2);
+        assert_eq!(rt;
+            run(&rt, alloc, words, &mut input, &mut output, &mut outside),
+            2
+        );
         assert_eq!(rt; output.bytes(), b"usage\n".as_slice());
     }
     Ok(())
@@ -313,7 +326,7 @@ fn a_write_that_fails_is_told(rt: HostRuntime) -> Result<(), Fail> {
     let mut output = MemSink::new(alloc, Vec::from_slice(alloc, &[0])?);
     let words = words(alloc, &["render", "t", "b"])?;
     assert_eq!(rt;
-        run(alloc, &words, &mut input, &mut output, &mut outside),
+        run(&rt, alloc, &words, &mut input, &mut output, &mut outside),
         3
     );
     assert_eq!(rt; output.bytes(), b"fault output\n".as_slice());

@@ -75,7 +75,10 @@ fn each_root_has_its_value(rt: HostRuntime) -> Result<(), Fail> {
         let mut input = MemSource::new(bytes, 4096, Vec::new(alloc));
         let mut output = MemSink::new(alloc, Vec::new(alloc));
         let mut outside = MemOutside::new(Vec::new(alloc), Vec::new(alloc));
-        assert_eq!(rt; run(alloc, &play, &mut input, &mut output, &mut outside), 0);
+        assert_eq!(rt;
+            run(&rt, alloc, &play, &mut input, &mut output, &mut outside),
+            0
+        );
         assert_eq!(rt; output.bytes(), answer.as_bytes(), "at {template}");
     }
     Ok(())
@@ -113,7 +116,7 @@ fn the_examples_are_rendered(rt: HostRuntime) -> Result<(), Fail> {
         let mut input = MemSource::new(Vec::new(alloc), 1, Vec::new(alloc));
         let mut output = MemSink::new(alloc, Vec::new(alloc));
         assert_eq!(rt;
-            run(alloc, &render, &mut input, &mut output, &mut outside),
+            run(&rt, alloc, &render, &mut input, &mut output, &mut outside),
             0
         );
         assert_eq!(rt; output.bytes(), said.as_bytes());

@@ -1,9 +1,8 @@
 ghost use Rattle.std.specs.Prelude.{◌<◌};
 
-use call_facts::Kind;
+use book_rules::Limits;
 use gateway_cli::{MemOutside, play_within, run};
 use gw_base::{MemSink, MemSource, Sink, Source, Text};
-use play_book::{Book, Event, Limits, Reply, StepFault};
 use std::alloc::Global;
 use std::test::Fail;
 
@@ -40,7 +39,7 @@ struct Row {
     status: u8,
 }
 
-const ROWS: [Row; 15] = [
+const ROWS: [Row; 25] = [
     Row {
         script: "",
         said: "",
@@ -116,6 +115,56 @@ const ROWS: [Row; 15] = [
         said: "refused line 1 BadRecord at ~\n",
         status: 1,
     },
+    Row {
+        script: "keepfails 0",
+        said: "fault keeper\n",
+        status: 3,
+    },
+    Row {
+        script: "# none is kept\n\nkeepfails 7 0 1\ntext 0 a x\n",
+        said: "fault keeper\n",
+        status: 3,
+    },
+    Row {
+        script: "keepfails 1\ntext 0 a x\ntext 0 a x\ndeploy 0 a\n",
+        said: "store\ndone\ndeployed 1\n",
+        status: 0,
+    },
+    Row {
+        script: "keepfails 2 5\ntext 0 a x\ndeploy 0 a\ntext 0 a x\ntext 0 a x\n",
+        said: "store\nrefused NoApi\ndone\nstore\n",
+        status: 0,
+    },
+    Row {
+        script: "keepfails\n",
+        said: "refused line 1 BadRecord at ~\n",
+        status: 1,
+    },
+    Row {
+        script: "keepfails 4294967296\n",
+        said: "refused line 1 BadRecord at ~\n",
+        status: 1,
+    },
+    Row {
+        script: "deploy 0 a\nkeepfails 0\n",
+        said: "refused NoApi\nrefused line 2 BadRecord at ~\n",
+        status: 1,
+    },
+    Row {
+        script: "keepfails 5\nkeepfails 0\n",
+        said: "refused line 2 BadRecord at ~\n",
+        status: 1,
+    },
+    Row {
+        script: "shutdown 0\nshutdown 0\n",
+        said: "done\ndone\n",
+        status: 0,
+    },
+    Row {
+        script: "shutdown\n",
+        said: "refused line 1 BadRecord at ~\n",
+        status: 1,
+    },
 ];
 
 #[test]
@@ -126,7 +175,14 @@ fn scripts_are_played(rt: HostRuntime) -> Result<(), Fail> {
         let mut input = source(alloc, row.script, 4096, &[])?;
         let mut output = MemSink::new(alloc, Vec::new(alloc));
         assert_eq!(rt;
-            run(alloc, &play, &mut input, &mut output, &mut no_files(alloc)),
+            run(
+                &rt,
+                alloc,
+                &play,
+                &mut input,
+                &mut output,
+                &mut no_files(alloc)
+            ),
             row.status,
             "at {}",
             row.script
@@ -144,7 +200,14 @@ fn the_hello_script_is_played_in_pieces(rt: HostRuntime) -> Result<(), Fail> {
         let mut input = source(alloc, HELLO, step, &[])?;
         let mut output = MemSink::new(alloc, Vec::new(alloc));
         assert_eq!(rt;
-            run(alloc, &play, &mut input, &mut output, &mut no_files(alloc)),
+            run(
+                &rt,
+                alloc,
+                &play,
+                &mut input,
+                &mut output,
+                &mut no_files(alloc)
+            ),
             0
         );
         assert_eq!(rt; output.bytes(), HELLO_SAID.as_bytes());
@@ -163,6 +226,7 @@ fn an_unknown_stage_is_told(rt: HostRuntime) -> Result<(), Fail> {
     let mut output = MemSink::new(alloc, Vec::new(alloc));
     assert_eq!(rt;
         run(
+            &rt,
             alloc,
             &words(alloc, "play")?,
             &mut input,
@@ -190,6 +254,7 @@ fn the_example_of_refusals_is_played(rt: HostRuntime) -> Result<(), Fail> {
     let mut output = MemSink::new(alloc, Vec::new(alloc));
     assert_eq!(rt;
         run(
+            &rt,
             alloc,
             &words(alloc, "play")?,
             &mut input,
@@ -209,6 +274,7 @@ fn words_of_no_command_are_told(rt: HostRuntime) -> Result<(), Fail> {
     let mut output = MemSink::new(alloc, Vec::new(alloc));
     assert_eq!(rt;
         run(
+            &rt,
             alloc,
             &words(alloc, "sing")?,
             &mut input,
@@ -219,6 +285,7 @@ fn words_of_no_command_are_told(rt: HostRuntime) -> Result<(), Fail> {
     );
     assert_eq!(rt;
         run(
+            &rt,
             alloc,
             &Vec::new(alloc),
             &mut input,
@@ -239,7 +306,14 @@ fn each_read_and_each_write_fails_once(rt: HostRuntime) -> Result<(), Fail> {
         let mut input = source(alloc, HELLO, 60, &[call])?;
         let mut output = MemSink::new(alloc, Vec::new(alloc));
         assert_eq!(rt;
-            run(alloc, &play, &mut input, &mut output, &mut no_files(alloc)),
+            run(
+                &rt,
+                alloc,
+                &play,
+                &mut input,
+                &mut output,
+                &mut no_files(alloc)
+            ),
             3
         );
         assert_eq!(rt; output.bytes(), b"fault input\n".as_slice());
@@ -255,7 +329,14 @@ fn each_read_and_each_write_fails_once(rt: HostRuntime) -> Result<(), Fail> {
         let fails = Vec::from_slice(alloc, &[call as u32])?;
         let mut output = MemSink::new(alloc, fails);
         assert_eq!(rt;
-            run(alloc, &play, &mut input, &mut output, &mut no_files(alloc)),
+            run(
+                &rt,
+                alloc,
+                &play,
+                &mut input,
+                &mut output,
+                &mut no_files(alloc)
+            ),
             3
         );
         let mut said = String::from_str(alloc, front)?;
@@ -291,7 +372,7 @@ fn a_full_session_is_told(rt: HostRuntime) -> Result<(), Fail> {
         };
         let mut output = MemSink::new(alloc, Vec::new(alloc));
         assert_eq!(rt;
-            play_within(alloc, limits, HELLO.as_bytes(), &mut output),
+            play_within(&rt, alloc, limits, HELLO.as_bytes(), &mut output),
             Ok(4)
         );
         let mut said = String::from_str(alloc, front)?;
@@ -366,6 +447,7 @@ fn a_call_is_rendered_over_its_request(rt: HostRuntime) -> Result<(), Fail> {
         let mut output = MemSink::new(alloc, Vec::new(alloc));
         assert_eq!(rt;
             run(
+                &rt,
                 alloc,
                 &words(alloc, "play")?,
                 &mut input,
@@ -395,6 +477,7 @@ fn a_stopped_render_is_told(rt: HostRuntime) -> Result<(), Fail> {
     let mut output = MemSink::new(alloc, Vec::new(alloc));
     assert_eq!(rt;
         run(
+            &rt,
             alloc,
             &words(alloc, "play")?,
             &mut input,
@@ -419,6 +502,7 @@ fn an_old_fault_is_not_told(rt: HostRuntime) -> Result<(), Fail> {
     assert!(rt; output.write(b"x").is_err());
     assert_eq!(rt;
         run(
+            &rt,
             alloc,
             &words(alloc, "play")?,
             &mut input,
@@ -431,37 +515,92 @@ fn an_old_fault_is_not_told(rt: HostRuntime) -> Result<(), Fail> {
     Ok(())
 }
 
-// With room for one entry, Enter is taken, and Leave is refused with the history's numbers.
+const HELLO_LOST: &str =
+    "store\nrefused NoApi\nrefused NoApi\nanswer HTTP/1.1%20403%20Forbidden%0D%0Acontent-type:%20application/json%0D%0Ax-gateway-cause:%20UNKNOWN_STAGE%0D%0Acontent-length:%2027%0D%0A%0D%0A{\"message\":\"Unknown%20stage\"}\nended Closed\n";
+
+// Where the first change is lost, what follows does not find it.
 #[test]
-fn a_book_of_one_entry_is_full(rt: HostRuntime) -> Result<(), Fail> {
+fn a_lost_change_is_told(rt: HostRuntime) -> Result<(), Fail> {
     let alloc = rt.alloc();
-    let limits = Limits {
-        entries: 1,
-        bytes: 1000,
-    };
-    let mut book = Book::start(alloc, limits)?;
-    let enter = Event::Enter {
-        moment: 0,
-        word: 0,
-        api: Text::of(String::from_str(alloc, "hello")?),
-        stage: Text::of(String::from_str(alloc, "v1")?),
-    };
-    let entered = book.step(alloc, 0, enter);
-    assert!(rt; matches!(&entered, Ok(Reply::NoStage)));
-    let leave = Event::Leave {
-        status: 403,
-        cause: Some(Kind::UnknownStage),
-    };
-    let full = StepFault::SessionFull {
-        entries: 1,
-        bytes: 7,
-    };
-    match book.step(alloc, 0, leave) {
-        Err(fault) => assert_eq!(rt; fault, full),
-        Ok(_) => assert!(rt; false, "the book took a second entry"),
-    }
-    let (tables, history) = book.close();
-    assert_eq!(rt; tables.stages().len(), 0);
-    assert_eq!(rt; history.len(), 1);
+    let script = format!(in alloc; "keepfails 1\n{HELLO}")?;
+    let mut input = source(alloc, script.as_str(), 4096, &[])?;
+    let mut output = MemSink::new(alloc, Vec::new(alloc));
+    assert_eq!(rt;
+        run(
+            &rt,
+            alloc,
+            &words(alloc, "play")?,
+            &mut input,
+            &mut output,
+            &mut no_files(alloc)
+        ),
+        0
+    );
+    assert_eq!(rt; output.bytes(), HELLO_LOST.as_bytes());
+    Ok(())
+}
+
+const CLOSING: &str =
+    "done\ndeployed 1\ndone\ndone\nanswer HTTP/1.1%20200%20OK%0D%0Acontent-type:%20text/plain%0D%0Aconnection:%20close%0D%0Acontent-length:%207%0D%0A%0D%0AHi%20Ann!\nended Closed\n";
+
+// Behind a shutdown each answer is the last one on its connection.
+#[test]
+fn a_closing_session_closes_connections(rt: HostRuntime) -> Result<(), Fail> {
+    let alloc = rt.alloc();
+    let message =
+        "POST%20/hello/v1%20HTTP/1.1%0D%0Ahost:%20localhost%0D%0Acontent-length:%203%0D%0A%0D%0AAnn";
+    let script = format!(in alloc;
+        "text 0 hello Hi%20$input.body!\ndeploy 0 hello\nstage 0 hello v1 1\nshutdown 0\ncall 0 0 {message}{message}\n"
+    )?;
+    let mut input = source(alloc, script.as_str(), 4096, &[])?;
+    let mut output = MemSink::new(alloc, Vec::new(alloc));
+    assert_eq!(rt;
+        run(
+            &rt,
+            alloc,
+            &words(alloc, "play")?,
+            &mut input,
+            &mut output,
+            &mut no_files(alloc)
+        ),
+        0
+    );
+    assert_eq!(rt; output.bytes(), CLOSING.as_bytes());
+    Ok(())
+}
+
+// The keeper is named also where the line that names it is not written, and the input where it is not read.
+#[test]
+fn the_first_fault_is_told(rt: HostRuntime) -> Result<(), Fail> {
+    let alloc = rt.alloc();
+    let play = words(alloc, "play")?;
+    let mut input = source(alloc, "keepfails 0", 4096, &[])?;
+    let mut output = MemSink::new(alloc, Vec::from_slice(alloc, &[0])?);
+    assert_eq!(rt;
+        run(
+            &rt,
+            alloc,
+            &play,
+            &mut input,
+            &mut output,
+            &mut no_files(alloc)
+        ),
+        3
+    );
+    assert_eq!(rt; output.bytes(), b"".as_slice());
+    let mut input = source(alloc, "keepfails 0", 4096, &[0])?;
+    let mut output = MemSink::new(alloc, Vec::new(alloc));
+    assert_eq!(rt;
+        run(
+            &rt,
+            alloc,
+            &play,
+            &mut input,
+            &mut output,
+            &mut no_files(alloc)
+        ),
+        3
+    );
+    assert_eq!(rt; output.bytes(), b"fault input\n".as_slice());
     Ok(())
 }

@@ -15,7 +15,7 @@ use Rattle.turn_desk.specs.declared.view.Phase.TheVariants.{Idle, Waiting, Turn,
 use Rattle.turn_desk.specs.declared.view.Known.{Known}
 use Rattle.turn_desk.specs.declared.view.View.{View}
 use Rattle.turn_desk.specs.Counts.{total, times, Every}
-use Rattle.turn_desk.specs.Entries.{entries_of}
+use Rattle.turn_desk.specs.Entries.{entries_of, HasNoneFrom}
 use Rattle.turn_desk.specs.Rule.{Knows, Stands, Stored, Ruled}
 use Rattle.turn_desk.specs.Steps.{looked, commits_to, committed, drew, served}
 use Rattle.turn_desk.specs.Views.{tickets_of, in_line, serving, numbers, view, shares, held, holds_of, IsSeen}
@@ -275,7 +275,8 @@ module _ {M E B : Type 0} (history : M → List E) (base_of : M → B) (seat_of 
       λ j d ne there. omega (arith, total_parts (copies (seat_of e)) s.views id j v d (λ is. ne (sym is)) at there, once, mine) in
       let rest_none : times (seat_of e) (numbers (k.ended ++ map (λ n. (n, [])) k.spare)) ≡ 0 = omega (arith, total_part (copies (seat_of e)) s.views id v at, once, bit_same k.number (seat_of e) (sym own)) in
       let busy_now : 1 ≤ total busy (set s.views id w) = omega (arith, total-same busy s.views id v w at refl, total_part busy s.views id v at) in
-      let longer : length log ≡ length r.log + 1 = length-append r.log (e ∷ []) in (
+      let longer : length log ≡ length r.log + 1 = length-append r.log (e ∷ []) in
+      let none_from : HasNoneFrom seat_of seats log = λ n le. entries_other seat_of r.log e n (λ is. omega arith) ∙ r.no_more n le in (
         w,
         keeps,
         tt,
@@ -307,9 +308,9 @@ module _ {M E B : Type 0} (history : M → List E) (base_of : M → B) (seat_of 
           shared = total-same rooms s.views id v w at refl ∙ r.shared;
           once = λ n lt. total-same (copies n) s.views id v w at refl ∙ r.once n lt;
           none_above = λ n le. total-same (copies n) s.views id v w at refl ∙ r.none_above n le;
-          no_more = λ n le. entries_other seat_of r.log e n (λ is. omega arith) ∙ r.no_more n le;
+          no_more = none_from;
         },
-        refl,
+        (refl, λ n le. ap (entries_of seat_of n) now ∙ none_from n (subst (λ m. m ≤ n) knows.sized le)),
       )
 
   pub settles : (slots id t : ℕ) (found : List E) (k : Known E B) (x : M) (c : Held) → history x ≡ found
@@ -353,7 +354,7 @@ module _ {M E B : Type 0} (history : M → List E) (base_of : M → B) (seat_of 
           none_above = λ n le. total-same (copies n) s.views id v w at refl ∙ r.none_above n le;
           no_more = r.no_more;
         },
-        refl,
+        (refl, λ n le. ap (entries_of seat_of n) now ∙ r.no_more n (subst (λ m. m ≤ n) knows.sized le)),
       )
 
   pub serves_next : (slots id t : ℕ) (k : Known E B) (x : M) (c : Held) → history x ≡ k.seen → k.base ≡ Some (base_of x)

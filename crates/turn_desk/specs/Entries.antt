@@ -1,11 +1,15 @@
 -- The entries of one seat in a history, and how a step of a machine adds one.
-use Rattle.std.specs.Prelude.{◌≡◌, ℕ, ◌==◌, nat_lt, Bool, true, false, cond, List, [], ◌∷◌, ◌++◌, length, Option, Some, None}
+use Rattle.std.specs.Prelude.{◌≡◌, ℕ, ◌==◌, ◌≤◌, nat_lt, Bool, true, false, cond, List, [], ◌∷◌, ◌++◌, length, Option, Some, None}
 use Rattle.std.specs.List.{filter}
 
 module _ {E : Type 0} where
   -- the entries of one seat, in order
   abbrev pub entries_of : (E → ℕ) → ℕ → List E → List E
   entries_of seat_of n log = filter (λ e. seat_of e == n) log
+
+  -- no number from this one on has an entry
+  abbrev pub HasNoneFrom : (E → ℕ) → ℕ → List E → Type 0
+  HasNoneFrom seat_of seats log = (n : ℕ) → seats ≤ n → entries_of seat_of n log ≡ []
 
   -- a step that was taken adds one entry of the seat, and one that was refused none
   abbrev pub Grows : (E → ℕ) → ℕ → Bool → List E → List E → Type 0

@@ -4,6 +4,8 @@ pub mod Calls
 pub mod Counts
 -- the entries of one seat in a history
 pub mod Entries
+-- a desk of one seat
+pub mod OneSeat
 -- the rule that the table of a desk keeps
 pub mod Rule
 -- what each step on the table tells

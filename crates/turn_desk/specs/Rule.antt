@@ -10,7 +10,7 @@ use Rattle.turn_desk.specs.declared.view.Phase.TheVariants.{Idle, Waiting, Turn,
 use Rattle.turn_desk.specs.declared.view.Known.{Known}
 use Rattle.turn_desk.specs.declared.view.View.{View}
 use Rattle.turn_desk.specs.Counts.{total, times, Every}
-use Rattle.turn_desk.specs.Entries.{entries_of}
+use Rattle.turn_desk.specs.Entries.{entries_of, HasNoneFrom}
 use Rattle.turn_desk.specs.Views.{tickets_of, in_line, serving, numbers, shares, holds_of, IsSpare, IsSeen}
 
 module _ {E B : Type 0} (seat_of : E → ℕ) (seats : ℕ) (base : B) (log : List E) (serves : ℕ) where
@@ -66,4 +66,4 @@ module _ {M E B : Type 0} (history : M → List E) (base_of : M → B) (seat_of 
     pub shared : total (λ v. length (holds_of v)) s.views ≡ seats
     pub once : (n : ℕ) → n < seats → total (λ v. times n (numbers (holds_of v))) s.views ≡ 1
     pub none_above : (n : ℕ) → seats ≤ n → total (λ v. times n (numbers (holds_of v))) s.views ≡ 0
-    pub no_more : (n : ℕ) → seats ≤ n → entries_of seat_of n log ≡ []
+    pub no_more : HasNoneFrom seat_of seats log

@@ -5,7 +5,7 @@ use Rattle.atomic_table.specs.Table.{Me, Step, rest}
 use Rattle.turn_desk.specs.declared.view.Phase.TheVariants.{Idle, Waiting, Turn}
 use Rattle.turn_desk.specs.declared.view.View.{View}
 use Rattle.turn_desk.specs.Counts.{Every}
-use Rattle.turn_desk.specs.Entries.{entries_of, history_in}
+use Rattle.turn_desk.specs.Entries.{entries_of, HasNoneFrom, history_in}
 use Rattle.turn_desk.specs.Views.{view, shares, ticket_in, commits_in, at_history, IsSpare, AreApart, numbers_of}
 
 module _ {S E B : Type 0} where
@@ -32,12 +32,12 @@ module _ {M E B : Type 0} (history : M → List E) (base_of : M → B) (seat_of 
   looked st m r n = (r ≡ ticket_in m.0.phase % 2 ^ 64 → Took (ticket_in m.0.phase) m n) × (r ≢ ticket_in m.0.phase % 2 ^ 64 → n ≡ m)
 
 module _ {M E B : Type 0} (history : M → List E) (seat_of : E → ℕ) where
-  -- the seat has seen the history of the machine that it put back
+  -- the seat has seen the history of the machine that it put back, which no number above the desk's has an entry in
   abbrev pub commits_to : Me (Option M) (View E B) → View E B
   commits_to m = view (commits_in m.0.phase) (at_history seat_of (history_in history m.1) m.0.known)
 
   abbrev pub committed : Step (Option M) → Me (Option M) (View E B) → ℕ → Me (Option M) (View E B) → Type 0
-  committed st m r n = n ≡ (commits_to m, m.1)
+  committed st m r n = (n ≡ (commits_to m, m.1)) × HasNoneFrom seat_of m.0.known.seats (history_in history m.1)
 
 module _ {S E B : Type 0} (seat_of : E → ℕ) where
   -- nothing changed, and the seat learned what the rule says of its numbers and of what it has seen

@@ -1,7 +1,7 @@
 // The desk.
 ghost use Rattle.std.specs.Prelude.{◌≡◌, ◌≢◌, ◌+◌, ◌<◌, ◌≤◌, ℕ, List, [], ◌∷◌, length, All, IfOk, IfErr, IsSome, Some};
 ghost use mathlib.Core.List.{IsPrefix};
-ghost use Rattle.turn_desk.specs.Entries.{entries_of};
+ghost use Rattle.turn_desk.specs.Entries.{entries_of, HasNoneFrom};
 ghost use Rattle.turn_desk.specs.Calls.{first_seat, without_first_spare, first_spare_of, joined_with, IsSameSeat, HasItsOwn, IsWhole, all_numbers, Taken, NotTaken};
 ghost use Rattle.turn_desk.specs.Views.{AreApart};
 
@@ -108,6 +108,7 @@ impl<M: Machine> Desk<M> {
         requires desk { seat.desk ≡ self.now }
         ensures same { IsSameSeat seat result.0 }
         ensures own { HasItsOwn M.seat_of result.0 }
+        ensures none_from { HasNoneFrom M.seat_of result.0.seats result.0.seen }
         ensures taken { IfOk result.1 (λ r. Taken M.seat_of M.event_of M.answers seat result.0 event r) }
         ensures refused { IfErr result.1 (λ f. NotTaken M.refuses seat result.0 event f) }
     {

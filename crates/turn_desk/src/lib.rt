@@ -21,6 +21,7 @@
 //! | `call`, where the machine takes the event | its reply, and one entry more at the end of `seen` and of `mine` |
 //! | `call`, where the machine refuses it | its fault; `seen` is the history as it stood, and `mine` is as it was |
 //! | `join` of a seat with number 2 | the first seat, with 2 and its entries in `ended` |
+//! | `OneSeat::call` | the machine's next step: nothing comes between two calls |
 //!
 //! | What does not compile | Why |
 //! |---|---|
@@ -39,6 +40,8 @@
 //!   as it stood;
 //! - after each call the seat's `mine` has just the entries of its number in its `seen`;
 //! - after a join the `seen` of each of the two seats is a beginning of the joined seat's;
+//! - no number that the desk does not have makes an entry, so where there is one seat ([`OneSeat`]) each call goes on right
+//!   behind the one before it;
 //! - `close` gives back the machine with the base that the seat knows and a history that begins with the seat's `seen`.
 //!   What the seat and those joined into it list is exactly what the history has of their numbers, and no other number
 //!   has an entry.
@@ -74,6 +77,7 @@
 
 mod desk;
 mod machine;
+mod one_seat;
 mod rule;
 mod seat;
 mod turn;
@@ -81,4 +85,5 @@ mod view;
 
 pub use desk::Desk;
 pub use machine::Machine;
+pub use one_seat::OneSeat;
 pub use seat::Seat;

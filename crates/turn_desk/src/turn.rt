@@ -4,7 +4,7 @@
 // lies in the one slot, which is with the seat whose ticket is served, from its look at word 1 to its step on word 1.
 ghost use Rattle.std.specs.Prelude.{◌≡◌, ◌+◌, ◌<◌, ◌≤◌, ◌%◌, ◌^◌, ℕ, List, [], ◌∷◌, Some, None};
 ghost use mathlib.Core.List.{IsPrefix};
-ghost use Rattle.turn_desk.specs.Entries.{entries_of, Grows};
+ghost use Rattle.turn_desk.specs.Entries.{entries_of, HasNoneFrom, history_in, Grows};
 ghost use Rattle.turn_desk.specs.Steps.{Took, commits_to};
 ghost use Rattle.turn_desk.specs.Views.{view, at_history};
 ghost use Rattle.turn_desk.specs.declared.view.Phase.TheVariants.{Idle, Waiting, Turn};
@@ -80,6 +80,7 @@ fn commit<M: Machine>(table: &SharedTable<M>, token: &mut Token<M>, taken: bool)
     requires turn { (k : ℕ) × (found : List M.Entry) × (machine : M) × (token.old.me.0.phase ≡ Turn k found) × (token.old.me.1 ≡ (0, Some machine) ∷ []) × Grows M.seat_of token.old.me.0.known.number taken found (M.history machine) }
     ensures desk { token.new.table_id ≡ token.old.table_id }
     ensures done { token.new.me ≡ (commits_to M.history M.seat_of token.old.me, token.old.me.1) }
+    ensures none_from { HasNoneFrom M.seat_of token.old.me.0.known.seats (history_in M.history token.old.me.1) }
 {
     if taken {
         table.fetch_add::<Commit<M>>(token, ENTRIES, 1);
@@ -102,6 +103,7 @@ pub(crate) fn give_back<M: Machine>(
     requires based { token.old.me.0.known.base ≡ Some (M.base machine) }
     ensures desk { token.new.table_id ≡ token.old.table_id }
     ensures idle { token.new.me ≡ (view Idle (at_history M.seat_of (M.history machine) token.old.me.0.known), []) }
+    ensures none_from { HasNoneFrom M.seat_of token.old.me.0.known.seats (M.history machine) }
 {
     let nothing = table.exchange(token, MACHINE, Some(machine));
     let None = nothing else { unreachable!() };

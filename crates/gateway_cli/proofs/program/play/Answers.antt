@@ -1,7 +1,7 @@
-use Rattle.std.proofs.Common.{[]}
-use Rattle.play_script.specs.Play.{Played, PlayedFront, SaysFront}
+use Rattle.std.proofs.Common.{◌≡◌, [], rules}
+use Rattle.play_script.specs.Play.{FailsToLoad, Played, PlayedFront, SaysFront}
 use Rattle.gateway_cli.specs.Top.{Says}
-use Rattle.gateway_cli.proofs.Inputs.{of_any, if_ok_of_longer, on_err_of_longer}
+use Rattle.gateway_cli.proofs.Inputs.{of_any, of_same, on_err_is, if_ok_of_longer, on_err_of_longer}
 use Rattle.play_script.proofs.Playing.{says_nothing}
 use Rattle.gateway_cli.proofs.Scripts.{none_played}
 use Rattle.gateway_cli.proofs.program.play.Goals as goal
@@ -23,3 +23,10 @@ returns-in-Err-Fault-clause-front g c = of_any [] _ _ (λ script. says_nothing _
 
 pub returns-in-Err-Memory-clause-front : goal.returns-in-Err-Memory-clause-front
 returns-in-Err-Memory-clause-front g c = of_any [] _ _ (λ script. says_nothing _ _ (none_played script))
+
+pub returns-in-Ok-clause-keeper : goal.returns-in-Ok-clause-keeper
+returns-in-Ok-clause-keeper g c =
+    let same : c.deref.result.now ≡ c.in-Ok.script.items = search rules in
+    λ e. of_same (g.I.Source.left c.args.input.now) c.deref.result.now c.in-Ok.script.items
+    (λ script. FailsToLoad script × SaysFront (g.W.Sink.written c.args.output.now) (g.W.Sink.written c.play_script.new.output) (PlayedFront script)) same c.in-Ok.ensures.whole
+    (c.play_script.ensures.keeper e, on_err_is c.play_script.result _ _ e c.play_script.ensures.front)

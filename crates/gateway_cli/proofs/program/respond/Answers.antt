@@ -1,7 +1,7 @@
-use Rattle.std.proofs.Common.{◌≡◌, true, false}
+use Rattle.std.proofs.Common.{◌≡◌, true, false, []}
 use Rattle.gateway_cli.specs.Commands.{is_play}
-use Rattle.gateway_cli.proofs.Inputs.{if_ok_map, on_err_map}
-use Rattle.gateway_cli.proofs.ByWords.{of_play, of_play_front, of_other, of_other_front}
+use Rattle.gateway_cli.proofs.Inputs.{of_any, of_each, if_ok_map, on_err_map}
+use Rattle.gateway_cli.proofs.ByWords.{front_is, of_play, of_play_front, of_other, of_other_front}
 use Rattle.gateway_cli.proofs.program.respond.Goals as goal
 
 pub returns-then-is_play-clause-answered : goal.returns-then-is_play-clause-answered
@@ -31,3 +31,11 @@ returns-clause-front g c =
     on_err_map c.over_files.result _ _
     (of_other_front (g.I.Source.left c.args.input.now) (g.O.Outside.files c.args.outside.now) c.args.words.now (g.W.Sink.written c.args.output.now) (g.W.Sink.written c.over_files.new.output) other)
     c.over_files.ensures.front
+
+pub returns-then-is_play-clause-keeper : goal.returns-then-is_play-clause-keeper
+returns-then-is_play-clause-keeper g c =
+    let same : is_play c.args.words.now ≡ true = cc (c.is_play.ensures, c.if-is_play.true) in
+    λ e. of_each (g.I.Source.left c.args.input.now) _ _
+    (λ script h. of_any [] (g.O.Outside.files c.args.outside.now) _
+    (λ files. ((same, h.0), (h.1.0, front_is c.args.words.now script files h.1.0 same h.1.1, h.1.2))))
+    (c.play.ensures.keeper e)

@@ -22,5 +22,13 @@ returns-in-Err-Output-clause-fault g c =
     let rose = c.in-Err-Output.ensures.output (cc c.in-Err-Output.field-0-is) in
     λ e. of_each (g.I.Source.left c.args.input.now) _ _
     (λ script. of_each (g.O.Outside.files c.args.outside.now) _ _
-    (λ files front. inr (inr (rose.1, rose.2, (omega (arith, rose.0, c.say_fault-in-Err-Output.ensures.later), (g.W.Sink.written c.respond.new.output, front, c.say_fault-in-Err-Output.ensures.front))))))
+    (λ files front. inr (inr (inl (rose.1, rose.2, (omega (arith, rose.0, c.say_fault-in-Err-Output.ensures.later), (g.W.Sink.written c.respond.new.output, front, c.say_fault-in-Err-Output.ensures.front)))))))
     c.in-Err-Output.ensures.front
+
+pub returns-in-Err-Keeper-clause-fault : goal.returns-in-Err-Keeper-clause-fault
+returns-in-Err-Keeper-clause-fault g c =
+    let stands = c.in-Err-Keeper.ensures.before_keeper (cc c.in-Err-Keeper.field-0-is) in
+    λ e. of_each (g.I.Source.left c.args.input.now) _ _
+    (λ script. of_each (g.O.Outside.files c.args.outside.now) _ _
+    (λ files h. inr (inr (inr (stands.0, stands.1, h.0, (g.W.Sink.written c.respond.new.output, h.1, c.say_fault-in-Err-Keeper.ensures.front))))))
+    (c.in-Err-Keeper.ensures.keeper (cc c.in-Err-Keeper.field-0-is))

@@ -1,5 +1,5 @@
 use Rattle.std.proofs.Common.{arith, subst, sym, ap, ◌∙◌}
-use Rattle.turn_desk.specs.Entries.{Grows}
+use Rattle.turn_desk.specs.Entries.{Grows, HasNoneFrom, history_in}
 use Rattle.turn_desk.specs.Steps.{commits_to}
 use Rattle.turn_desk.proofs.Keeps.{commits_at, serves_as}
 use Rattle.turn_desk.proofs.turn.give_back.Goals as goal

@@ -1,15 +1,21 @@
 use Rattle.std.proofs.Common.{arith, rules, ap, sym, subst, refl, ◌∙◌, ◌≡◌, [], Err, IfSome}
 use Rattle.std.proofs.lemmas.Grind.{common_steps}
+use Rattle.keeper_core.specs.Held.{Held}
 use Rattle.book_rules.specs.History.{Base}
 use Rattle.book_opening.specs.Ready.{AreReady}
-use Rattle.book_core.specs.Starts.{StartFails}
-use Rattle.book_core.proofs.Starting.{by_load, keeps_first, stands_first}
+use Rattle.book_core.specs.Starts.{StartFails, FailsAt, is_store_fault}
+use Rattle.book_core.proofs.Starting.{by_load, fails_by, keeps_first, stands_first}
 use Rattle.book_core.proofs.book.Book.start.Goals as goal
 
 pub returns-in-Err-clause-failed : goal.returns-in-Err-clause-failed
 returns-in-Err-clause-failed g c =
     subst (λ f. StartFails (g.K.Keeper.facts c.args.keeper) f (g.K.Keeper.facts c.load.new.self)) (sym c.fault_of.ensures)
-    (by_load c.in-Err.fault (g.K.Keeper.facts c.args.keeper) (g.K.Keeper.facts c.load.new.self) c.in-Err.ensures.cause c.in-Err.ensures.good_rows c.in-Err.ensures.planned)
+    (by_load c.in-Err.fault (g.K.Keeper.facts c.args.keeper) (g.K.Keeper.facts c.load.new.self) c.in-Err.ensures.cause c.in-Err.ensures.good_rows)
+
+pub returns-in-Err-clause-planned : goal.returns-in-Err-clause-planned
+returns-in-Err-clause-planned g c =
+    subst (λ f. FailsAt (g.K.Keeper.facts c.args.keeper).planned (is_store_fault f)) (sym c.fault_of.ensures)
+    (fails_by Held _ _ c.in-Err.fault c.in-Err.ensures.planned)
 
 pub invariant_of-result : goal.invariant_of-result
 invariant_of-result g c =

@@ -1,17 +1,20 @@
-use Rattle.std.proofs.Common.{arith, rules, ap, sym, subst, refl, ◌∙◌, ◌≡◌, [], ◌∷◌, ◌++◌, length}
+use Rattle.std.proofs.Common.{arith, rules, false, ap, sym, subst, refl, ◌∙◌, ◌≡◌, [], ◌∷◌, ◌++◌, length}
 use Rattle.std.specs.Prelude.{is_some}
 use Rattle.std.proofs.lemmas.Grind.{common_steps}
 use Rattle.std.proofs.lemmas.List.Sums.{sum_by-append}
 use Rattle.book_rules.proofs.Histories.{state_after-more}
 use Rattle.book_rules.proofs.Times.{reply_in_time, opens_in_time}
-use Rattle.book_rules.specs.History.{Base, Answers, state_after, size, reply}
+use Rattle.book_rules.specs.History.{Base, Answers, state_after, size, is_full, reply}
 use Rattle.book_rules.specs.Machine.{after, row_of, outcome_of, told}
 use Rattle.book_rules.specs.Times.{IsInTime}
 use Rattle.book_rules.specs.declared.events.Entry.{Entry}
+use Rattle.book_rules.specs.declared.replies.Reply.TheVariants.{Store}
+use Rattle.gw_base.specs.Outside.{Rose}
 use Rattle.book_core.specs.Books.{Keeps}
 use Rattle.book_core.specs.Keeps.{Went}
 use Rattle.book_core.specs.Standing.{standing}
 use Rattle.book_core.proofs.Stepping.{keeps_more, answers_at}
+use Rattle.book_core.proofs.Stores.{rose}
 use Rattle.book_core.proofs.book.Book.step.Goals as goal
 
 pub invariant_of-self-2 : goal.invariant_of-self-2
@@ -47,8 +50,9 @@ returns-clause-taken g c =
     let answer : c.in-Ok.taken.reply ≡ reply base.opening history c.args.event c.in-Ok.taken.kept =
     subst (λ s. c.in-Ok.taken.reply ≡ told (is_some (row_of s c.args.event)) (outcome_of s (length history) c.args.event).reply c.in-Ok.taken.kept) c.self.invariant.stands
     (c.in-Ok.ensures.reply ∙ ap (λ n. told (is_some (row_of (standing c.self.inside.current) c.args.event)) (outcome_of (standing c.self.inside.current) n c.args.event).reply c.in-Ok.taken.kept) (search rules)) in
+    let room : is_full base.limits history c.args.event ≡ false = search rules in
     subst (λ v. (x : Entry) × (c.push.new.self.items ≡ v.history ++ x ∷ []) × (x.seat ≡ c.args.seat) × (x.event ≡ c.args.event) × Answers v.base v.history x c.in-Ok.taken.reply)
-    c.self.view_is (entry, items, refl, refl, answers_at base history entry c.in-Ok.taken.reply before now c.self.invariant.keeps went answer)
+    c.self.view_is (entry, items, refl, refl, answers_at base history entry c.in-Ok.taken.reply before now c.self.invariant.keeps went room answer)
 
 pub returns-clause-time : goal.returns-clause-time
 returns-clause-time g c =
@@ -58,3 +62,8 @@ returns-clause-time g c =
     subst (λ s. c.in-Ok.taken.reply ≡ told (is_some (row_of s c.args.event)) (outcome_of s (length history) c.args.event).reply c.in-Ok.taken.kept) c.self.invariant.stands
     (c.in-Ok.ensures.reply ∙ ap (λ n. told (is_some (row_of (standing c.self.inside.current) c.args.event)) (outcome_of (standing c.self.inside.current) n c.args.event).reply c.in-Ok.taken.kept) (search rules)) in
     subst IsInTime (sym answer) (reply_in_time opening history c.args.event c.in-Ok.taken.kept (opens_in_time opening c.self.invariant.good))
+
+pub returns-clause-store : goal.returns-clause-store
+returns-clause-store g c =
+    subst (λ k. c.in-Ok.taken.reply ≡ Store → Rose (g.K.Keeper.facts k).faults (g.K.Keeper.facts c.take-taken.new.keeper).faults) (ap (λ v. v.keeper) c.self.view_is)
+    (rose (standing c.self.inside.current) _ c.args.event c.in-Ok.taken.kept c.in-Ok.taken.reply _ (g.K.Keeper.facts c.self.inside.keeper) (g.K.Keeper.facts c.take-taken.new.keeper) c.in-Ok.ensures.reply c.in-Ok.ensures.keeper)

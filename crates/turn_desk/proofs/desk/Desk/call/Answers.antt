@@ -1,6 +1,6 @@
 use Rattle.std.proofs.Common.{subst, sym, ap, ◌∙◌}
 use Rattle.std.proofs.lemmas.Result.{IfOk-weaker, IfErr-weaker}
-use Rattle.turn_desk.specs.Entries.{Grows}
+use Rattle.turn_desk.specs.Entries.{HasNoneFrom, Grows}
 use Rattle.turn_desk.specs.Views.{at_history}
 use Rattle.turn_desk.specs.Calls.{facts_of, Taken, NotTaken}
 use Rattle.turn_desk.proofs.Calls.{grows_from, taken_from, not_taken_from}
@@ -45,3 +45,8 @@ returns-clause-refused g c =
     e.based e.seen e.own (ap (λ x. x.0.known) c.give_back.ensures.idle ∙ ap (λ x. at_history m.seat_of now x.0.known) e.turn.1)
     (t.0, subst (λ n. m.refuses (m.base c.take_machine-machine.result) before n c.args.event f) c.seat.invariant.numbered t.1)))
     c.step-reply.ensures.refused
+
+pub returns-clause-none_from : goal.returns-clause-none_from
+returns-clause-none_from g c =
+    let m = g.M.Machine in
+    subst (λ k. HasNoneFrom m.seat_of k.seats k.seen) (sym (ap (λ x. x.0.known) c.give_back.ensures.idle)) c.give_back.ensures.none_from

@@ -1,5 +1,0 @@
-pub mod Finding
-pub mod Histories
-pub mod Placing
-pub mod Viewing
-mod Times

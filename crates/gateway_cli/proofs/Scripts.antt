@@ -1,13 +1,12 @@
 -- Scripts over their limit, and within it.
-use Rattle.play_script.proofs.Playing.{nothing_front, says_front}
+use Rattle.play_script.proofs.Playing.{opened_nothing, says_front}
 use Rattle.book_rules.specs.declared.events.Limits.{Limits}
 use Rattle.std.proofs.Common.{◌≡◌, ℕ, Bool, ◌<◌, ◌≤◌, ◌++◌, true, false, nat_lt, List, [], length, Option, Result, Ok, Err, IfOk, OnOk, OnErr, refl, sym, ap, subst, arith}
 use Rattle.std.proofs.lemmas.Grind.{common_steps}
 use borrow.Author.Tests.{lt-ltb}
 use Rattle.std.specs.Io.KnownBytes.{Appends}
 use Rattle.gw_base.specs.Whole.{AppendsFront}
-use Rattle.play_script.specs.Play.{SaysFront, Output, Opening, PlaysOpened, OpenedFrontBy, OpenedFront, PlayedBy, Played, PlayedFrontBy, PlayedFront, FailsToLoad, names_load, opening_of, script_limit, session_limits, too_long, IsFront}
-use Rattle.play_connection.specs.Sessions.{base_of}
+use Rattle.play_script.specs.Play.{SaysFront, Output, PlaysOpened, OpenedFront, PlayedBy, Played, PlayedFrontBy, PlayedFront, FailsToLoad, names_load, opening_of, script_limit, session_limits, too_long, IsFront}
 use Rattle.play_script.specs.declared.stops.PlayStop.{PlayStop}
 use Rattle.play_script.specs.declared.stops.PlayStop.TheVariants as play
 use Rattle.gateway_cli.specs.Top.{Says, play_stopped_by}
@@ -40,10 +39,6 @@ pub front_within_limit : (script front : List ℕ) → length script ≤ 6710886
 unfolding PlayedFront
 front_within_limit script front h plays = subst (λ b. PlayedFrontBy b script front) (sym (within script h)) plays
 
-none_opened : (limits : Limits) (opening : Opening) (named : Bool) → OpenedFrontBy named limits opening []
-none_opened limits opening true = refl
-none_opened limits opening false = nothing_front (base_of limits opening.fails) opening.number [] opening.lines
-
 -- nothing is a front of all
 pub none_played : (script : List ℕ) → PlayedFront script []
 unfolding PlayedFront
@@ -51,7 +46,7 @@ none_played script = go (nat_lt script_limit (length script))
   where
     go : (b : Bool) → PlayedFrontBy b script []
     go true = (too_long.text, refl)
-    go false = none_opened session_limits (opening_of script) (names_load (opening_of script))
+    go false = opened_nothing session_limits (opening_of script) (names_load (opening_of script))
 
 -- a script within its limit was played
 pub plays_says : (script : List ℕ) (limits : Limits) (a b : Option (List ℕ)) (status : ℕ) → limits ≡ session_limits → length script ≤ 67108864

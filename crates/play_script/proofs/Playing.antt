@@ -7,10 +7,9 @@ use Rattle.gw_base.specs.Whole.{AppendsFront}
 use Rattle.book_rules.specs.declared.events.Entry.{Entry}
 use Rattle.book_rules.specs.History.{Base}
 use Rattle.play_script.specs.Coding.{lines_of, lines_left}
-use Rattle.gw_base.specs.Feed.{is_listed}
 use Rattle.book_rules.specs.declared.events.Limits.{Limits}
 use Rattle.play_connection.specs.Sessions.{base_of}
-use Rattle.play_script.specs.Play.{Opening, names_load, PlaysOpened, OpenedFrontBy, OpenedFront, Output, Turn, before, IsTurn, IsFront, Plays, PlaysFront, GoesOn, GoesOnInFront, SaysFront, status_at}
+use Rattle.play_script.specs.Play.{Opening, names_load, OpenedFrontBy, OpenedFront, Output, Turn, before, IsTurn, IsFront, Plays, PlaysFront, GoesOn, GoesOnInFront, SaysFront, status_at}
 use Rattle.play_script.specs.declared.turns.End.{End}
 
 -- what holds, where an answer is an error
@@ -126,36 +125,9 @@ plays_none base number None a none = ([], refl, Appends-nil a)
 plays_none base number (Some lines) a none = absurd cc
 
 -- nothing is a front of what a session prints, however it opens
-opened_nothing : (limits : Limits) (opening : Opening) (named : Bool) → OpenedFrontBy named limits opening []
+pub opened_nothing : (limits : Limits) (opening : Opening) (named : Bool) → OpenedFrontBy named limits opening []
 opened_nothing limits opening true = refl
 opened_nothing limits opening false = nothing_front (base_of limits opening.fails) opening.number [] opening.lines
 
 pub says_none_opened : (limits : Limits) (opening : Opening) (a : Option (List ℕ)) → SaysFront a a (OpenedFront limits opening)
 says_none_opened limits opening a = says_nothing a _ (opened_nothing limits opening (names_load opening))
-
-module _ (limits : Limits) (opening : Opening) (number : ℕ) (fails : List ℕ) (lines : List (List ℕ)) (opens : opening ≡ record { number = number; fails = fails; lines = lines }) (loads : is_listed fails 0 ≡ false) where
-  loaded : names_load opening ≡ false
-  loaded = ap names_load opens ∙ loads
-
-  -- what a session prints whose load did not fail
-  pub opened : (base : Base) (a b : Option (List ℕ)) (status : ℕ) → base ≡ base_of limits fails
-      → (text : List ℕ) × Plays base number [] lines (record { text = text; status = status }) × Appends a b text
-      → (text : List ℕ) × PlaysOpened limits opening (record { text = text; status = status }) × Appends a b text
-  opened base a b status is (text, plays, wrote) = (
-    text,
-    (
-      loaded,
-      subst (λ (o : Opening). Plays (base_of limits o.fails) o.number [] o.lines (record { text = text; status = status })) (sym opens)
-          (subst (λ (s : Base). Plays s number [] lines (record { text = text; status = status })) is plays),
-    ),
-    wrote,
-  )
-
-  pub opened_front : (base : Base) (a b : Option (List ℕ)) → base ≡ base_of limits fails → SaysFront a b (PlaysFront base number [] lines) → SaysFront a b (OpenedFront limits opening)
-  opened_front base a b is (front, plays, wrote) = (
-    front,
-    subst (λ named. OpenedFrontBy named limits opening front) (sym loaded)
-        (subst (λ (o : Opening). PlaysFront (base_of limits o.fails) o.number [] o.lines front) (sym opens)
-        (subst (λ (s : Base). PlaysFront s number [] lines front) is plays)),
-    wrote,
-  )

@@ -22,6 +22,7 @@
 //! its calls is among these. `SessionFull` comes exactly by the numbers of the history. A book that is given back has tables that are
 //! those of its history, and so has the keeper where it tells them; nothing is staged there; the entries that are not kept are at most
 //! the faults that the keeper counted (`Keeps` of `specs/Books.antt`). So a [`Book`] is a [`turn_desk::Machine`], with no clause of its own.
+//! As a law, [`laws::what_goes_through_a_book_may_cross_threads`]; and `proofs/Sent.antt` has that a book may, where its keeper may.
 //!
 //! Left out: want of memory has no cause, but it comes only where a reply shares something or a change is written.
 #![tactic(auto)]
@@ -31,6 +32,7 @@ mod book;
 mod changes;
 mod current;
 mod finds;
+pub mod laws;
 mod machine;
 mod names;
 mod prepare;

@@ -29,6 +29,20 @@ fn files(alloc: Global, template: &[u8], body: &[u8], fails: &[u32]) -> Result<M
     Ok(MemOutside::new(files, Vec::from_slice(alloc, fails)?))
 }
 
+// What these words answer and print, where nothing is read.
+pub(crate) fn answered<R: Wait>(
+    rt: &R,
+    alloc: Global,
+    words: &[Text],
+    outside: &mut MemOutside,
+    fails: &[u32],
+) -> Result<(u8, MemSink), Fail> {
+    let mut input = MemSource::new(Vec::new(alloc), 1, Vec::new(alloc));
+    let mut output = MemSink::new(alloc, Vec::from_slice(alloc, fails)?);
+    let status = run(rt, alloc, words, &mut input, &mut output, outside);
+    Ok((status, output))
+}
+
 /// What `render t b` answers and prints. A read of its input would fail.
 fn rendered<R: Wait>(
     rt: &R,
@@ -282,13 +296,9 @@ fn a_file_that_fails_is_told_before_all_else(rt: HostRuntime) -> Result<(), Fail
 fn a_file_may_be_named_twice(rt: HostRuntime) -> Result<(), Fail> {
     let alloc = rt.alloc();
     let mut outside = files(alloc, b"<$input.body>".as_slice(), b"", &[])?;
-    let mut input = MemSource::new(Vec::new(alloc), 1, Vec::new(alloc));
-    let mut output = MemSink::new(alloc, Vec::new(alloc));
     let words = words(alloc, &["render", "t", "t"])?;
-    assert_eq!(rt;
-        run(&rt, alloc, &words, &mut input, &mut output, &mut outside),
-        0
-    );
+    let (status, output) = answered(&rt, alloc, &words, &mut outside, &[])?;
+    assert_eq!(rt; status, 0);
     assert_eq!(rt; output.bytes(), b"<<$input.body>>".as_slice());
     Ok(())
 }
@@ -307,12 +317,8 @@ fn words_beside_render_are_told(rt: HostRuntime) -> Result<(), Fail> {
     ];
     for words in &rows {
         let mut outside = files(alloc, b"Hi".as_slice(), b"", &[])?;
-        let mut input = MemSource::new(Vec::new(alloc), 1, Vec::new(alloc));
-        let mut output = MemSink::new(alloc, Vec::new(alloc));
-        assert_eq!(rt;
-            run(&rt, alloc, words, &mut input, &mut output, &mut outside),
-            2
-        );
+        let (status, output) = answered(&rt, alloc, words, &mut outside, &[])?;
+        assert_eq!(rt; status, 2);
         assert_eq!(rt; output.bytes(), b"usage\n".as_slice());
     }
     Ok(())
@@ -322,13 +328,9 @@ fn words_beside_render_are_told(rt: HostRuntime) -> Result<(), Fail> {
 fn a_write_that_fails_is_told(rt: HostRuntime) -> Result<(), Fail> {
     let alloc = rt.alloc();
     let mut outside = files(alloc, b"Hi".as_slice(), b"", &[])?;
-    let mut input = MemSource::new(Vec::new(alloc), 1, Vec::new(alloc));
-    let mut output = MemSink::new(alloc, Vec::from_slice(alloc, &[0])?);
     let words = words(alloc, &["render", "t", "b"])?;
-    assert_eq!(rt;
-        run(&rt, alloc, &words, &mut input, &mut output, &mut outside),
-        3
-    );
+    let (status, output) = answered(&rt, alloc, &words, &mut outside, &[0])?;
+    assert_eq!(rt; status, 3);
     assert_eq!(rt; output.bytes(), b"fault output\n".as_slice());
     Ok(())
 }

@@ -1,7 +1,8 @@
 // The values below the roots, as the documents show them, and the examples that use them.
-use crate::renders::words;
-use gateway_cli::{MemOutside, run};
-use gw_base::{Bytes, MemSink, MemSource, Text};
+use crate::renders::{answered, words};
+use crate::scripts::told;
+use gateway_cli::MemOutside;
+use gw_base::{Bytes, Text};
 use record_fields::encode;
 use std::alloc::Global;
 use std::test::Fail;
@@ -57,7 +58,6 @@ const ROOTS: [(&str, &str); 32] = [
 #[test]
 fn each_root_has_its_value(rt: HostRuntime) -> Result<(), Fail> {
     let alloc = rt.alloc();
-    let play = words(alloc, &["play"])?;
     let body = encode(alloc, BODY.as_bytes())?;
     for (template, said) in &ROOTS {
         let field = encode(alloc, template.as_bytes())?;
@@ -71,14 +71,8 @@ fn each_root_has_its_value(rt: HostRuntime) -> Result<(), Fail> {
         let answer = format!(in alloc;
             "done\ndeployed 1\ndone\nanswer HTTP/1.1%20200%20OK%0D%0Acontent-type:%20text/plain%0D%0Acontent-length:%20{length}%0D%0A%0D%0A{printed}\nended Closed\n"
         )?;
-        let bytes = Vec::from_slice(alloc, script.as_bytes())?;
-        let mut input = MemSource::new(bytes, 4096, Vec::new(alloc));
-        let mut output = MemSink::new(alloc, Vec::new(alloc));
-        let mut outside = MemOutside::new(Vec::new(alloc), Vec::new(alloc));
-        assert_eq!(rt;
-            run(&rt, alloc, &play, &mut input, &mut output, &mut outside),
-            0
-        );
+        let (status, output) = told(&rt, alloc, script.as_str())?;
+        assert_eq!(rt; status, 0);
         assert_eq!(rt; output.bytes(), answer.as_bytes(), "at {template}");
     }
     Ok(())
@@ -113,12 +107,8 @@ fn the_examples_are_rendered(rt: HostRuntime) -> Result<(), Fail> {
             Bytes::of(Vec::from_slice(alloc, body.as_bytes())?),
         ))?;
         let mut outside = MemOutside::new(files, Vec::new(alloc));
-        let mut input = MemSource::new(Vec::new(alloc), 1, Vec::new(alloc));
-        let mut output = MemSink::new(alloc, Vec::new(alloc));
-        assert_eq!(rt;
-            run(&rt, alloc, &render, &mut input, &mut output, &mut outside),
-            0
-        );
+        let (status, output) = answered(&rt, alloc, &render, &mut outside, &[])?;
+        assert_eq!(rt; status, 0);
         assert_eq!(rt; output.bytes(), said.as_bytes());
     }
     Ok(())

@@ -1,9 +1,10 @@
 ghost use Rattle.std.specs.Prelude.{◌<◌};
 
 use book_rules::Limits;
-use gateway_cli::{MemOutside, play_within, run};
+use gateway_cli::{MemOutside, PlayStop, play_within, run};
 use gw_base::{MemSink, MemSource, Sink, Source, Text};
 use std::alloc::Global;
+use std::sync::Wait;
 use std::test::Fail;
 
 const HELLO: &str =
@@ -30,6 +31,31 @@ fn source(alloc: Global, script: &str, step: usize, fails: &[u32]) -> Result<Mem
 {
     let bytes = Vec::from_slice(alloc, script.as_bytes())?;
     Ok(MemSource::new(bytes, step, Vec::from_slice(alloc, fails)?))
+}
+
+// What these words answer over the hello script.
+fn asked<R: Wait>(rt: &R, alloc: Global, words: &[Text], output: &mut MemSink) -> Result<u8, Fail> {
+    let mut input = source(alloc, HELLO, 4096, &[])?;
+    Ok(run(rt, alloc, words, &mut input, output, &mut no_files(alloc)))
+}
+
+// What `play` answers.
+fn played<R: Wait>(
+    rt: &R,
+    alloc: Global,
+    input: &mut MemSource,
+    output: &mut MemSink,
+) -> Result<u8, Fail> {
+    let play = words(alloc, "play")?;
+    Ok(run(rt, alloc, &play, input, output, &mut no_files(alloc)))
+}
+
+// What a script that is read and written whole comes to.
+pub(crate) fn told<R: Wait>(rt: &R, alloc: Global, script: &str) -> Result<(u8, MemSink), Fail> {
+    let mut input = source(alloc, script, 4096, &[])?;
+    let mut output = MemSink::new(alloc, Vec::new(alloc));
+    let status = played(rt, alloc, &mut input, &mut output)?;
+    Ok((status, output))
 }
 
 #[derive(Clone, Copy)]
@@ -170,23 +196,9 @@ const ROWS: [Row; 25] = [
 #[test]
 fn scripts_are_played(rt: HostRuntime) -> Result<(), Fail> {
     let alloc = rt.alloc();
-    let play = words(alloc, "play")?;
     for row in &ROWS {
-        let mut input = source(alloc, row.script, 4096, &[])?;
-        let mut output = MemSink::new(alloc, Vec::new(alloc));
-        assert_eq!(rt;
-            run(
-                &rt,
-                alloc,
-                &play,
-                &mut input,
-                &mut output,
-                &mut no_files(alloc)
-            ),
-            row.status,
-            "at {}",
-            row.script
-        );
+        let (status, output) = told(&rt, alloc, row.script)?;
+        assert_eq!(rt; status, row.status, "at {}", row.script);
         assert_eq!(rt; output.bytes(), row.said.as_bytes(), "at {}", row.script);
     }
     Ok(())
@@ -195,21 +207,10 @@ fn scripts_are_played(rt: HostRuntime) -> Result<(), Fail> {
 #[test]
 fn the_hello_script_is_played_in_pieces(rt: HostRuntime) -> Result<(), Fail> {
     let alloc = rt.alloc();
-    let play = words(alloc, "play")?;
     for step in [1, 2, 7, 4096] {
         let mut input = source(alloc, HELLO, step, &[])?;
         let mut output = MemSink::new(alloc, Vec::new(alloc));
-        assert_eq!(rt;
-            run(
-                &rt,
-                alloc,
-                &play,
-                &mut input,
-                &mut output,
-                &mut no_files(alloc)
-            ),
-            0
-        );
+        assert_eq!(rt; played(&rt, alloc, &mut input, &mut output)?, 0);
         assert_eq!(rt; output.bytes(), HELLO_SAID.as_bytes());
     }
     Ok(())
@@ -222,19 +223,8 @@ fn an_unknown_stage_is_told(rt: HostRuntime) -> Result<(), Fail> {
     script.push_str("post 0 0 hello v2 Ann\n")?;
     let mut said = String::from_str(alloc, HELLO_SAID)?;
     said.push_str(UNKNOWN_STAGE)?;
-    let mut input = source(alloc, script.as_str(), 4096, &[])?;
-    let mut output = MemSink::new(alloc, Vec::new(alloc));
-    assert_eq!(rt;
-        run(
-            &rt,
-            alloc,
-            &words(alloc, "play")?,
-            &mut input,
-            &mut output,
-            &mut no_files(alloc)
-        ),
-        0
-    );
+    let (status, output) = told(&rt, alloc, script.as_str())?;
+    assert_eq!(rt; status, 0);
     assert_eq!(rt; output.bytes(), said.as_bytes());
     Ok(())
 }
@@ -250,19 +240,8 @@ fn the_example_of_refusals_is_played(rt: HostRuntime) -> Result<(), Fail> {
         "refused NoApi\nrefused BadName\ndone\nrefused NoDeployment\ndeployed 1\ndone\nanswer HTTP/1.1%20200%20OK%0D%0Acontent-type:%20text/plain%0D%0Acontent-length:%2023%0D%0A%0D%0ADear%20Ann,%20good%20morning.\nended Closed\n",
     )?;
     said.push_str(UNKNOWN_STAGE)?;
-    let mut input = source(alloc, script, 4096, &[])?;
-    let mut output = MemSink::new(alloc, Vec::new(alloc));
-    assert_eq!(rt;
-        run(
-            &rt,
-            alloc,
-            &words(alloc, "play")?,
-            &mut input,
-            &mut output,
-            &mut no_files(alloc)
-        ),
-        0
-    );
+    let (status, output) = told(&rt, alloc, script)?;
+    assert_eq!(rt; status, 0);
     assert_eq!(rt; output.bytes(), said.as_bytes());
     Ok(())
 }
@@ -270,80 +249,89 @@ fn the_example_of_refusals_is_played(rt: HostRuntime) -> Result<(), Fail> {
 #[test]
 fn words_of_no_command_are_told(rt: HostRuntime) -> Result<(), Fail> {
     let alloc = rt.alloc();
-    let mut input = source(alloc, HELLO, 4096, &[])?;
     let mut output = MemSink::new(alloc, Vec::new(alloc));
+    let sing = words(alloc, "sing")?;
+    assert_eq!(rt; asked(&rt, alloc, &sing, &mut output)?, 2);
+    assert_eq!(rt; asked(&rt, alloc, &Vec::new(alloc), &mut output)?, 2);
     assert_eq!(rt;
-        run(
-            &rt,
-            alloc,
-            &words(alloc, "sing")?,
-            &mut input,
-            &mut output,
-            &mut no_files(alloc)
-        ),
-        2
+        output.bytes(),
+        b"usage
+usage
+"
+            .as_slice()
     );
-    assert_eq!(rt;
-        run(
-            &rt,
-            alloc,
-            &Vec::new(alloc),
-            &mut input,
-            &mut output,
-            &mut no_files(alloc)
-        ),
-        2
-    );
-    assert_eq!(rt; output.bytes(), b"usage\nusage\n".as_slice());
+    Ok(())
+}
+
+// What the hello script comes to where this read, or this write, fails.
+fn read_failing<R: Wait>(rt: &R, alloc: Global, call: u32) -> Result<(u8, MemSink), Fail> {
+    let mut input = source(alloc, HELLO, 60, &[call])?;
+    let mut output = MemSink::new(alloc, Vec::new(alloc));
+    let status = played(rt, alloc, &mut input, &mut output)?;
+    Ok((status, output))
+}
+
+fn write_failing<R: Wait>(rt: &R, alloc: Global, call: u32) -> Result<(u8, MemSink), Fail> {
+    let mut input = source(alloc, HELLO, 4096, &[])?;
+    let mut output = MemSink::new(alloc, Vec::from_slice(alloc, &[call])?);
+    let status = played(rt, alloc, &mut input, &mut output)?;
+    Ok((status, output))
+}
+
+#[test]
+fn each_read_fails_once(rt: HostRuntime) -> Result<(), Fail> {
+    for call in 0..3 {
+        let (status, output) = read_failing(&rt, rt.alloc(), call)?;
+        assert_eq!(rt; status, 3);
+        assert_eq!(rt;
+            output.bytes(),
+            b"fault input
+"
+                .as_slice()
+        );
+    }
     Ok(())
 }
 
 #[test]
-fn each_read_and_each_write_fails_once(rt: HostRuntime) -> Result<(), Fail> {
-    let alloc = rt.alloc();
-    let play = words(alloc, "play")?;
-    for call in 0..3 {
-        let mut input = source(alloc, HELLO, 60, &[call])?;
-        let mut output = MemSink::new(alloc, Vec::new(alloc));
-        assert_eq!(rt;
-            run(
-                &rt,
-                alloc,
-                &play,
-                &mut input,
-                &mut output,
-                &mut no_files(alloc)
-            ),
-            3
-        );
-        assert_eq!(rt; output.bytes(), b"fault input\n".as_slice());
-    }
-    let fronts = [
-        "",
-        "done\n",
-        "done\ndeployed 1\n",
-        "done\ndeployed 1\ndone\n",
+fn each_write_fails_once(rt: HostRuntime) -> Result<(), Fail> {
+    let rows = [
+        "fault output
+",
+        "done
+fault output
+",
+        "done
+deployed 1
+fault output
+",
+        "done
+deployed 1
+done
+fault output
+",
     ];
-    for (call, front) in fronts.iter().enumerate() {
-        let mut input = source(alloc, HELLO, 4096, &[])?;
-        let fails = Vec::from_slice(alloc, &[call as u32])?;
-        let mut output = MemSink::new(alloc, fails);
-        assert_eq!(rt;
-            run(
-                &rt,
-                alloc,
-                &play,
-                &mut input,
-                &mut output,
-                &mut no_files(alloc)
-            ),
-            3
-        );
-        let mut said = String::from_str(alloc, front)?;
-        said.push_str("fault output\n")?;
+    for (call, said) in rows.iter().enumerate() {
+        let (status, output) = write_failing(&rt, rt.alloc(), call as u32)?;
+        assert_eq!(rt; status, 3);
         assert_eq!(rt; output.bytes(), said.as_bytes());
     }
     Ok(())
+}
+
+// What the hello script comes to in a session of this many entries.
+fn played_within<R: Wait>(
+    rt: &R,
+    alloc: Global,
+    entries: u32,
+) -> Result<(Result<u8, PlayStop>, MemSink), Fail> {
+    let limits = Limits {
+        entries,
+        bytes: 1000,
+    };
+    let mut output = MemSink::new(alloc, Vec::new(alloc));
+    let answered = play_within(rt, alloc, limits, HELLO.as_bytes(), &mut output);
+    Ok((answered, output))
 }
 
 #[test]
@@ -366,15 +354,8 @@ fn a_full_session_is_told(rt: HostRuntime) -> Result<(), Fail> {
         ),
     ];
     for (entries, front, end) in rows {
-        let limits = Limits {
-            entries,
-            bytes: 1000,
-        };
-        let mut output = MemSink::new(alloc, Vec::new(alloc));
-        assert_eq!(rt;
-            play_within(&rt, alloc, limits, HELLO.as_bytes(), &mut output),
-            Ok(4)
-        );
+        let (answered, output) = played_within(&rt, alloc, entries)?;
+        assert_eq!(rt; answered, Ok(4));
         let mut said = String::from_str(alloc, front)?;
         if !end.is_empty() {
             said.push_str(busy)?;
@@ -443,19 +424,8 @@ fn a_call_is_rendered_over_its_request(rt: HostRuntime) -> Result<(), Fail> {
         let said = format!(in alloc;
             "done\ndeployed 1\ndone\nanswer HTTP/1.1%20200%20OK%0D%0Acontent-type:%20text/plain%0D%0Acontent-length:%20{answered}\nended Closed\n"
         )?;
-        let mut input = source(alloc, script.as_str(), 4096, &[])?;
-        let mut output = MemSink::new(alloc, Vec::new(alloc));
-        assert_eq!(rt;
-            run(
-                &rt,
-                alloc,
-                &words(alloc, "play")?,
-                &mut input,
-                &mut output,
-                &mut no_files(alloc)
-            ),
-            0
-        );
+        let (status, output) = told(&rt, alloc, script.as_str())?;
+        assert_eq!(rt; status, 0);
         assert_eq!(rt; output.bytes(), said.as_bytes(), "at {template}");
     }
     Ok(())
@@ -475,17 +445,7 @@ fn a_stopped_render_is_told(rt: HostRuntime) -> Result<(), Fail> {
     }
     let mut input = source(alloc, script.as_str(), 1_000_000, &[])?;
     let mut output = MemSink::new(alloc, Vec::new(alloc));
-    assert_eq!(rt;
-        run(
-            &rt,
-            alloc,
-            &words(alloc, "play")?,
-            &mut input,
-            &mut output,
-            &mut no_files(alloc)
-        ),
-        0
-    );
+    assert_eq!(rt; played(&rt, alloc, &mut input, &mut output)?, 0);
     let said =
         "done\ndeployed 1\ndone\nanswer HTTP/1.1%20500%20Internal%20Server%20Error%0D%0Acontent-type:%20application/json%0D%0Ax-gateway-cause:%20API_CONFIGURATION_ERROR%0D%0Acontent-length:%2035%0D%0A%0D%0A{\"message\":\"Internal%20server%20error\"}\nended Closed\n";
     assert_eq!(rt; output.bytes(), said.as_bytes());
@@ -500,17 +460,7 @@ fn an_old_fault_is_not_told(rt: HostRuntime) -> Result<(), Fail> {
     let mut output = MemSink::new(alloc, Vec::from_slice(alloc, &[0])?);
     assert!(rt; input.read(&mut [0; 1]).is_err());
     assert!(rt; output.write(b"x").is_err());
-    assert_eq!(rt;
-        run(
-            &rt,
-            alloc,
-            &words(alloc, "play")?,
-            &mut input,
-            &mut output,
-            &mut no_files(alloc)
-        ),
-        0
-    );
+    assert_eq!(rt; played(&rt, alloc, &mut input, &mut output)?, 0);
     assert_eq!(rt; output.bytes(), HELLO_SAID.as_bytes());
     Ok(())
 }
@@ -523,19 +473,8 @@ const HELLO_LOST: &str =
 fn a_lost_change_is_told(rt: HostRuntime) -> Result<(), Fail> {
     let alloc = rt.alloc();
     let script = format!(in alloc; "keepfails 1\n{HELLO}")?;
-    let mut input = source(alloc, script.as_str(), 4096, &[])?;
-    let mut output = MemSink::new(alloc, Vec::new(alloc));
-    assert_eq!(rt;
-        run(
-            &rt,
-            alloc,
-            &words(alloc, "play")?,
-            &mut input,
-            &mut output,
-            &mut no_files(alloc)
-        ),
-        0
-    );
+    let (status, output) = told(&rt, alloc, script.as_str())?;
+    assert_eq!(rt; status, 0);
     assert_eq!(rt; output.bytes(), HELLO_LOST.as_bytes());
     Ok(())
 }
@@ -552,19 +491,8 @@ fn a_closing_session_closes_connections(rt: HostRuntime) -> Result<(), Fail> {
     let script = format!(in alloc;
         "text 0 hello Hi%20$input.body!\ndeploy 0 hello\nstage 0 hello v1 1\nshutdown 0\ncall 0 0 {message}{message}\n"
     )?;
-    let mut input = source(alloc, script.as_str(), 4096, &[])?;
-    let mut output = MemSink::new(alloc, Vec::new(alloc));
-    assert_eq!(rt;
-        run(
-            &rt,
-            alloc,
-            &words(alloc, "play")?,
-            &mut input,
-            &mut output,
-            &mut no_files(alloc)
-        ),
-        0
-    );
+    let (status, output) = told(&rt, alloc, script.as_str())?;
+    assert_eq!(rt; status, 0);
     assert_eq!(rt; output.bytes(), CLOSING.as_bytes());
     Ok(())
 }
@@ -573,34 +501,13 @@ fn a_closing_session_closes_connections(rt: HostRuntime) -> Result<(), Fail> {
 #[test]
 fn the_first_fault_is_told(rt: HostRuntime) -> Result<(), Fail> {
     let alloc = rt.alloc();
-    let play = words(alloc, "play")?;
     let mut input = source(alloc, "keepfails 0", 4096, &[])?;
     let mut output = MemSink::new(alloc, Vec::from_slice(alloc, &[0])?);
-    assert_eq!(rt;
-        run(
-            &rt,
-            alloc,
-            &play,
-            &mut input,
-            &mut output,
-            &mut no_files(alloc)
-        ),
-        3
-    );
+    assert_eq!(rt; played(&rt, alloc, &mut input, &mut output)?, 3);
     assert_eq!(rt; output.bytes(), b"".as_slice());
     let mut input = source(alloc, "keepfails 0", 4096, &[0])?;
     let mut output = MemSink::new(alloc, Vec::new(alloc));
-    assert_eq!(rt;
-        run(
-            &rt,
-            alloc,
-            &play,
-            &mut input,
-            &mut output,
-            &mut no_files(alloc)
-        ),
-        3
-    );
+    assert_eq!(rt; played(&rt, alloc, &mut input, &mut output)?, 3);
     assert_eq!(rt; output.bytes(), b"fault input\n".as_slice());
     Ok(())
 }

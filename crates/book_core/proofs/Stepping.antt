@@ -10,6 +10,7 @@ use Rattle.keeper_core.specs.declared.rows.Row.{Row}
 use Rattle.book_rules.proofs.Histories.{state_after-more, plan_after-more}
 use Rattle.book_rules.specs.Machine.{State, row_of, put_kept, outcome_of, told}
 use Rattle.book_rules.specs.History.{Base, Answers, IsAsPlanned, state_after, tables_after, plan_after, calls_of, is_changing, is_full, keeps, not_kept, reply}
+use Rattle.book_rules.specs.Times.{IsInTime}
 use Rattle.book_rules.specs.declared.events.Entry.{Entry}
 use Rattle.book_rules.specs.declared.replies.Reply.{Reply}
 use Rattle.book_core.specs.Books.{Keeps}
@@ -61,11 +62,12 @@ as_planned base history entry (Some plan) before now same went =
 -- and so the entry answers
 pub answers_at : (base : Base) (history : List Entry) (entry : Entry) (answer : Reply) (before now : KeeperFacts)
     → Keeps base history before → Went (row_of (state_after base.opening history) entry.event) entry.kept before now
-    → is_full base.limits history entry.event ≡ false → answer ≡ reply base.opening history entry.event entry.kept → Answers base history entry answer
-answers_at base history entry answer before now h went room is =
+    → is_full base.limits history entry.event ≡ false → answer ≡ reply base.opening history entry.event entry.kept → IsInTime answer → Answers base history entry answer
+answers_at base history entry answer before now h went room is in_time =
     record {
       room = room;
       reply = is;
+      in_time = in_time;
       else_kept = went.else_kept;
       planned = as_planned base history entry base.start.planned before.planned now.planned h.planned went.planned;
     }

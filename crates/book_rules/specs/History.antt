@@ -9,6 +9,7 @@ use Rattle.book_rules.specs.declared.events.Command.TheVariants.{PutApi, Deploy,
 use Rattle.book_rules.specs.declared.events.Event.{Event}
 use Rattle.book_rules.specs.declared.events.Event.TheVariants.{Enter, Admin, Leave}
 use Rattle.book_rules.specs.declared.events.Entry.{Entry}
+use Rattle.book_rules.specs.Times.{IsInTime}
 use Rattle.book_rules.specs.declared.replies.Reply.{Reply}
 
 -- what the names and values of some variables sum up to
@@ -99,10 +100,11 @@ IsAsPlanned base before entry None = Unit {0}
 IsAsPlanned base before entry (Some plan) =
     is_changing base.opening before entry.event ≡ true → entry.kept ≡ keeps (plan_after base.opening plan before)
 
--- There was room for the entry, and the reply is the machine's at its place; only a changing event is not kept, and where it is told
--- which calls fail, exactly by these.
+-- There was room for the entry, and the reply is the machine's at its place, with a moment before the year 2100; only a changing event
+-- is not kept, and where it is told which calls fail, exactly by these.
 pub record Answers (base : Base) (before : List Entry) (entry : Entry) (answer : Reply) : Type 0 where
   pub room : is_full base.limits before entry.event ≡ false
   pub reply : answer ≡ reply base.opening before entry.event entry.kept
+  pub in_time : IsInTime answer
   pub else_kept : is_changing base.opening before entry.event ≡ false → entry.kept ≡ true
   pub planned : IsAsPlanned base before entry base.start.planned

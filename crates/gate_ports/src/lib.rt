@@ -4,7 +4,7 @@
 //! * [`Conn`] is one connection, a source and a sink in one: a read leaves what was written, a write what is left.
 //! * [`Port`] lends connections, one at a time, and takes each back. [`Accepted`] is what a look for one found.
 //! * [`Gate`] is passed before each exchange; [`FreeGate`] lets all pass. [`Archive`] takes a closed session's history.
-//! * [`Lane`] is a port with its backend, clock, random words and gate.
+//! * [`Lane`] is a port with its [`Means`]: its backend, clock, random words and gate.
 //! * [`MemConn`] and [`MemPort`] are a connection and a port in memory. The reads, writes and looks that are named by number
 //!   fail, and no others.
 //!
@@ -46,6 +46,6 @@ mod port;
 pub use archive::Archive;
 pub use conn::Conn;
 pub use gate::{FreeGate, Gate};
-pub use lane::Lane;
+pub use lane::{Lane, Means};
 pub use memory::{MemConn, MemPort};
 pub use port::{Accepted, Port};

@@ -4,7 +4,7 @@ ghost use Rattle.std.specs.Prelude.{◌≡◌, [], ◌∷◌, ◌++◌, All, IfO
 ghost use Rattle.gate_ports.specs.Docks.{IsUnwritten};
 
 use backend_core::MemBackend;
-use gate_ports::{Accepted, Archive, FreeGate, Gate, Lane, MemConn, MemPort, Port};
+use gate_ports::{Accepted, Archive, FreeGate, Gate, Lane, Means, MemConn, MemPort, Port};
 use gw_base::{FixedClock, MemSink, MemSource, Memory, Seq, SplitMix, read_all, write_all};
 use std::alloc::Global;
 use std::test::Fail;
@@ -156,10 +156,12 @@ fn lane(alloc: Global) -> Result<Served, Fail>
 {
     Ok(Lane {
         port: port(alloc, 1, &[])?,
-        backend: MemBackend::new(alloc, Vec::new(alloc)),
-        clock: FixedClock { moment: 0 },
-        words: SplitMix { state: 0 },
-        gate: FreeGate,
+        means: Means {
+            backend: MemBackend::new(alloc, Vec::new(alloc)),
+            clock: FixedClock { moment: 0 },
+            words: SplitMix { state: 0 },
+            gate: FreeGate,
+        },
     })
 }
 
@@ -174,9 +176,9 @@ fn sent<T: Send>(value: T) -> T
 fn a_lane_may_go_to_another_thread(rt: HostRuntime) -> Result<(), Fail> {
     let alloc = rt.alloc();
     let mut lane = sent(lane(alloc)?);
-    lane.gate.pass(0);
+    lane.means.gate.pass(0);
     assert_eq!(rt; visit(alloc, &mut lane.port), ONE);
-    assert_eq!(rt; lane.backend.sent().len(), 0);
+    assert_eq!(rt; lane.means.backend.sent().len(), 0);
     Ok(())
 }
 

@@ -51,8 +51,9 @@ returns-clause-taken g c =
     subst (λ s. c.in-Ok.taken.reply ≡ told (is_some (row_of s c.args.event)) (outcome_of s (length history) c.args.event).reply c.in-Ok.taken.kept) c.self.invariant.stands
     (c.in-Ok.ensures.reply ∙ ap (λ n. told (is_some (row_of (standing c.self.inside.current) c.args.event)) (outcome_of (standing c.self.inside.current) n c.args.event).reply c.in-Ok.taken.kept) (search rules)) in
     let room : is_full base.limits history c.args.event ≡ false = search rules in
+    let in_time = subst IsInTime (sym answer) (reply_in_time base.opening history c.args.event c.in-Ok.taken.kept (opens_in_time base.opening c.self.invariant.good)) in
     subst (λ v. (x : Entry) × (c.push.new.self.items ≡ v.history ++ x ∷ []) × (x.seat ≡ c.args.seat) × (x.event ≡ c.args.event) × Answers v.base v.history x c.in-Ok.taken.reply)
-    c.self.view_is (entry, items, refl, refl, answers_at base history entry c.in-Ok.taken.reply before now c.self.invariant.keeps went room answer)
+    c.self.view_is (entry, items, refl, refl, answers_at base history entry c.in-Ok.taken.reply before now c.self.invariant.keeps went room answer in_time)
 
 pub returns-clause-time : goal.returns-clause-time
 returns-clause-time g c =

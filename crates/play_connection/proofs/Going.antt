@@ -11,11 +11,11 @@ use Rattle.http_framing.specs.declared.fault.EdgeFault.{EdgeFault}
 use Rattle.http_framing.specs.declared.fault.EdgeFault.TheVariants.{Cut, BadHead, BadChunk, HeadTooLong, ReadFault, Memory}
 use Rattle.std.proofs.lemmas.Grind.{common_steps}
 use Rattle.std.specs.Prelude.{MatchResult, IfOk}
-use Rattle.play_connection.specs.Closing.{asks_close, closes, most_messages}
+use Rattle.gate_walk.specs.Closing.{asks_close, closes, most_messages}
 use Rattle.play_connection.specs.Serving.{Exchange, Refused, served}
 use Rattle.play_connection.specs.Talks.{Said, says, behind, edge_end, Ends, GoesOn, Answers, message_of, Talks, Connects}
-use Rattle.play_connection.specs.declared.ended.Ended.{Ended}
-use Rattle.play_connection.specs.declared.ended.Ended.TheVariants.{Closed, SessionFull}
+use Rattle.gate_walk.specs.declared.ended.Ended.{Ended}
+use Rattle.gate_walk.specs.declared.ended.Ended.TheVariants.{Closed, SessionFull}
 
 module _ (base : Base) (moment word : ℕ) (start : List Entry) (bytes : List ℕ) where
   -- whatever the rest comes to, with what was written before it the connection comes to it

@@ -3,9 +3,7 @@ use Rattle.std.proofs.Common.{◌≡◌, ℕ, Bool, true, false, not, ◌||◌, 
 use Rattle.gw_base.specs.Feed.{is_listed}
 use Rattle.keeper_core.specs.Lists.{no_rows}
 use Rattle.keeper_core.specs.Keeping.{KeeperFacts, MemFacts, Planned, IsPlanned, told_by, one_more}
-use Rattle.book_rules.proofs.Times.{reply_in_time}
 use Rattle.book_rules.specs.History.{Base, Answers, IsAsPlanned, is_changing, is_full, reply, total_size}
-use Rattle.book_rules.specs.Machine.{latest_of}
 use Rattle.book_rules.specs.Times.{IsInTime}
 use Rattle.book_rules.specs.declared.events.Entry.{Entry}
 use Rattle.book_rules.specs.declared.events.Event.{Event}
@@ -19,7 +17,7 @@ use Rattle.book_core.specs.declared.book.StepFault.TheVariants.{SessionFull}
 use Rattle.book_core.specs.declared.start.StartFault.{StartFault}
 use Rattle.book_core.specs.declared.start.StartFault.TheVariants.{BadStore}
 use Rattle.keeper_core.specs.declared.table.Table.{Table}
-use Rattle.play_connection.specs.declared.ended.SessionFull.{SessionFull as Full}
+use Rattle.gate_walk.specs.declared.ended.SessionFull.{SessionFull as Full}
 use Rattle.play_connection.specs.Serving.{entry_at, reply_at, taken}
 use Rattle.play_connection.specs.Sessions.{IsOfPlay, base_of, is_kept, is_planned}
 
@@ -50,8 +48,7 @@ module _ (base : Base) (history : List Entry) (event : Event) (of_play : IsOfPla
       let is : answer ≡ reply_at base history event = answers.reply ∙ ap (λ e. reply base.opening history e.event e.kept) here in
       let room : is_full base.limits history event ≡ false = ap (is_full base.limits history) (sym same) ∙ answers.room in (
         is,
-        subst IsInTime (sym is)
-            (reply_in_time base.opening history event (is_kept base history event) (subst (λ (b : Base). latest_of b.opening.joins ≤ 4102444799999) (sym of_play.2) (omega arith))),
+        answers.in_time,
         ap (λ b. cond b (Err record { entries = length history; bytes = total_size history }) (Ok (history ++ entry_at base history event ∷ []))) room
             ∙ ap (λ e. Ok (history ++ e ∷ [])) (sym here) ∙ ap Ok (sym goes),
       )

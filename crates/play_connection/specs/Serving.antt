@@ -11,10 +11,10 @@ use Rattle.http_edge.specs.Answers.{spelled}
 use Rattle.call_facts.specs.Target.{target_of}
 use Rattle.call_facts.specs.declared.target.Target.{Target}
 use Rattle.method_flow.specs.declared.answers.Made.{Made}
-use Rattle.play_connection.specs.Answering.{made_for}
-use Rattle.play_connection.specs.Closing.{closes}
+use Rattle.gate_walk.specs.Answering.{made_for}
+use Rattle.gate_walk.specs.Closing.{closes}
 use Rattle.play_connection.specs.Sessions.{is_kept}
-use Rattle.play_connection.specs.declared.ended.SessionFull.{SessionFull}
+use Rattle.gate_walk.specs.declared.ended.SessionFull.{SessionFull}
 
 -- a message that was answered: the history behind its Leave, the bytes, and whether the connection closes
 pub record Exchange : Type 0 where

@@ -10,8 +10,8 @@ use Rattle.http_edge.specs.declared.incoming.Incoming.TheVariants.{Whole, TooLar
 use Rattle.http_framing.specs.declared.fault.EdgeFault.{EdgeFault}
 use Rattle.http_framing.specs.declared.fault.EdgeFault.TheVariants as edge
 use Rattle.play_connection.specs.Serving.{Exchange, Refused, served}
-use Rattle.play_connection.specs.declared.ended.Ended.{Ended}
-use Rattle.play_connection.specs.declared.ended.Ended.TheVariants.{Closed, Cut, BadHead, BadChunk, HeadTooLong, SessionFull}
+use Rattle.gate_walk.specs.declared.ended.Ended.{Ended}
+use Rattle.gate_walk.specs.declared.ended.Ended.TheVariants.{Closed, Cut, BadHead, BadChunk, HeadTooLong, SessionFull}
 
 -- the history behind a connection, all bytes that were written on it, and how it ended
 pub record Said : Type 0 where

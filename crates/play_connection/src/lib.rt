@@ -29,16 +29,13 @@
 //! templates; which changes are kept follows from the calls that the keeper is told to fail (`specs/Sessions.antt`). As a law, [`laws::a_connection_comes_to_one_thing`].
 #![tactic(auto)]
 
-mod answering;
-mod closing;
-mod ended;
 pub mod laws;
 mod serving;
 mod session;
 mod slice_source;
 mod talk;
 
-pub use ended::{Ended, SessionFull};
+pub use gate_walk::{Ended, SessionFull};
 pub use session::{Session, SessionFault};
 pub use slice_source::SliceSource;
 pub use talk::{Talk, connect};

@@ -1,16 +1,14 @@
 // What one message does to a book.
 ghost use Rattle.std.specs.Prelude.{◌≡◌, false, Ok, Err, IfOk, MatchResult};
 ghost use Rattle.call_facts.specs.Target.{target_of};
-ghost use Rattle.play_connection.specs.Closing.{closes as closes_of};
+ghost use Rattle.gate_walk.specs.Closing.{closes as closes_of};
 ghost use Rattle.play_connection.specs.Sessions.{closing_by};
 ghost use Rattle.play_connection.specs.Serving.{entry_of as entry_of_target, is_head as is_head_of, left as left_of, served as served_of};
 
-use crate::answering::answer_for;
-use crate::closing::closes;
-use crate::ended::SessionFull;
 use crate::session::Session;
 use book_rules::{Event, Reply};
 use call_facts::{Request, Target};
+use gate_walk::{SessionFull, answer_for, closes};
 use gw_base::{Bytes, Memory};
 use http_edge::spell_answer;
 use method_flow::Made;

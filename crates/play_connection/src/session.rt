@@ -5,9 +5,9 @@ ghost use Rattle.book_rules.specs.Times.{IsInTime};
 ghost use Rattle.play_connection.specs.Serving.{reply_at, taken as taken_of};
 ghost use Rattle.play_connection.specs.Sessions.{base_of};
 
-use crate::ended::SessionFull;
 use book_core::{Book, StartFault, StepFault};
 use book_rules::{Event, Limits, Reply};
+use gate_walk::SessionFull;
 use gw_base::Memory;
 use keeper_core::{MemKeeper, Tables};
 use std::alloc::Global;

@@ -4,11 +4,11 @@ ghost use Rattle.std.specs.Option.{option_map};
 ghost use Rattle.http_edge.specs.declared.incoming.Incoming.TheVariants.{End as end_of_input};
 ghost use Rattle.play_connection.specs.Talks.{Connects, edge_end as edge_end_of, message_of};
 
-use crate::ended::Ended;
 use crate::serving::serve;
 use crate::session::Session;
 use crate::slice_source::SliceSource;
 use call_facts::Request;
+use gate_walk::Ended;
 use gw_base::{Bytes, Memory};
 use http_edge::{Buffer, EdgeFault, Incoming, busy_answer, edge_answer, next_message};
 use std::alloc::Global;

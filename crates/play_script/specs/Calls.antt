@@ -5,9 +5,9 @@ use Rattle.std.specs.List.{concat}
 use Rattle.call_facts.specs.declared.request.WireReply.{WireReply}
 use Rattle.http_edge.specs.Replies.{IsReply}
 use Rattle.http_framing.specs.declared.fault.EdgeFault.{EdgeFault}
-use Rattle.play_connection.specs.Printed.{ended_name}
-use Rattle.play_connection.specs.declared.ended.Ended.{Ended}
-use Rattle.play_connection.specs.declared.ended.Ended.TheVariants.{Closed, Cut, BadHead, BadChunk, HeadTooLong, SessionFull}
+use Rattle.gate_walk.specs.Printed.{ended_name}
+use Rattle.gate_walk.specs.declared.ended.Ended.{Ended}
+use Rattle.gate_walk.specs.declared.ended.Ended.TheVariants.{Closed, Cut, BadHead, BadChunk, HeadTooLong, ReadFault, WriteFault, SessionFull, Memory}
 use Rattle.play_script.specs.Printed.{line_feed, full_line}
 use Rattle.record_fields.specs.Writing.{coded}
 use Rattle.play_script.specs.declared.turns.End.{End}
@@ -64,7 +64,10 @@ full_lines (Cut n) = []
 full_lines BadHead = []
 full_lines BadChunk = []
 full_lines HeadTooLong = []
+full_lines ReadFault = []
+full_lines WriteFault = []
 full_lines (SessionFull entries bytes) = full_line (record { entries = entries; bytes = bytes })
+full_lines Memory = []
 
 -- the lines of a connection
 unfoldable pub connection_lines : List ℕ → Ended → List ℕ
@@ -77,4 +80,7 @@ end_of (Cut n) = None
 end_of BadHead = None
 end_of BadChunk = None
 end_of HeadTooLong = None
+end_of ReadFault = None
+end_of WriteFault = None
 end_of (SessionFull entries bytes) = Some Full
+end_of Memory = None

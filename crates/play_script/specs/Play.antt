@@ -15,7 +15,7 @@ use Rattle.book_rules.specs.declared.replies.Reply.{Reply}
 use Rattle.play_connection.specs.Serving.{reply_at, taken}
 use Rattle.play_connection.specs.Sessions.{base_of}
 use Rattle.play_connection.specs.Talks.{Said, Connects}
-use Rattle.play_connection.specs.declared.ended.SessionFull.{SessionFull}
+use Rattle.gate_walk.specs.declared.ended.SessionFull.{SessionFull}
 use Rattle.play_script.specs.Calls.{post_bytes, AreOutcomes, BreaksOutcomes, end_of, connection_lines}
 use Rattle.play_script.specs.Coding.{lines_of, is_passed_over}
 use Rattle.play_script.specs.Printed.{line_feed, reply_line, refused_line, full_line}

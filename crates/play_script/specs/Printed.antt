@@ -8,7 +8,7 @@ use Rattle.book_rules.specs.declared.replies.Reply.{Reply}
 use Rattle.book_rules.specs.declared.replies.Reply.TheVariants.{Entered, NoStage, Store, Left, Done, Deployed, Refused}
 use Rattle.play_script.specs.declared.records.LineFault.{LineFault}
 use Rattle.play_script.specs.declared.records.LineFault.TheVariants.{BadRecord, NotBuilt, Template}
-use Rattle.play_connection.specs.declared.ended.SessionFull.{SessionFull}
+use Rattle.gate_walk.specs.declared.ended.SessionFull.{SessionFull}
 
 abbrev pub line_feed : List ℕ
 line_feed = 10 ∷ []

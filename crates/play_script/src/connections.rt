@@ -64,9 +64,7 @@ fn full_lines(alloc: Global, ended: Ended) -> Result<Text, Memory>
 {
     match ended {
         Ended::SessionFull { entries, bytes } => full_line(alloc, SessionFull { entries, bytes }),
-        Ended::Closed | Ended::Cut(_) | Ended::BadHead | Ended::BadChunk | Ended::HeadTooLong => Ok(
-            Text::of(String::new(alloc)),
-        ),
+        _ => Ok(Text::of(String::new(alloc))),
     }
 }
 
@@ -95,8 +93,8 @@ fn end_of(ended: Ended) -> Option<End>
 {
     match ended {
         Ended::SessionFull { .. } => Some(End::Full),
-        Ended::Closed | Ended::Cut(_) | Ended::BadHead | Ended::BadChunk | Ended::HeadTooLong =>
-            None,
+        // Of the others, those of a read, a write or want of memory don't come in a play.
+        _ => None,
     }
 }
 

@@ -3,7 +3,7 @@ use Rattle.http_edge.specs.Messages.{IsNext}
 use Rattle.http_edge.specs.declared.incoming.Incoming.TheVariants.{End}
 use Rattle.play_connection.specs.Serving.{Exchange, Refused, served}
 use Rattle.play_connection.specs.Talks.{Said, says, message_of, edge_end, Connects}
-use Rattle.play_connection.specs.declared.ended.Ended.TheVariants.{Closed}
+use Rattle.gate_walk.specs.declared.ended.Ended.TheVariants.{Closed}
 use Rattle.play_connection.proofs.Going.{Open, starts, ends_at, went_on, closes_behind, full_at, fault_next, if_ok_is, if_err_is, if_ok_only, another}
 use Rattle.play_connection.proofs.talk.connect.Goals as goal
 

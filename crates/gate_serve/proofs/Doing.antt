@@ -1,0 +1,179 @@
+-- What a call of the desk does.
+use Rattle.std.proofs.Common.{◌≡◌, ℕ, ◌+◌, ◌==◌, Bool, true, false, ◌||◌, List, [], ◌∷◌, ◌++◌, length, Option, Some, None, IfSome, Result, Ok, Err, ap, sym, ◌∙◌, append-nil, append_assoc, length-append, subst, refl, arith, rules}
+use Rattle.book_core.specs.Books.{Refuses}
+use Rattle.book_core.specs.declared.book.StepFault.{StepFault}
+use Rattle.book_core.specs.declared.book.StepFault.TheVariants as step
+use Rattle.book_rules.specs.History.{Base, Answers}
+use Rattle.book_rules.specs.declared.events.Entry.{Entry}
+use Rattle.book_rules.specs.declared.events.Event.{Event}
+use Rattle.book_rules.specs.declared.replies.Reply.{Reply}
+use Rattle.gate_serve.specs.Serving.{Did, Reaches, Gives, called_by, seat_of}
+use Rattle.gate_serve.specs.declared.called.Called.{Called}
+use Rattle.gate_serve.specs.declared.called.Called.TheVariants.{Answered, Full, Memory}
+use Rattle.gate_walk.specs.Acts.{Act, took, refused, Goes, Stand, WentOn, entry_of, entries_of, made_by, tell_closing, leaves_closing}
+use Rattle.gate_walk.specs.Walk.{Call, asks, answers}
+use Rattle.gate_walk.specs.declared.ended.SessionFull.{SessionFull as Numbers}
+use Rattle.gate_walk.proofs.Standing.{entries_both, stays, stand_both, made_both, closing_both}
+use Rattle.turn_desk.specs.Calls.{SeatFacts, IsSameSeat, HasItsOwn, Taken, NotTaken}
+
+abbrev pub Seats : Type 0
+Seats = SeatFacts Entry Base
+
+abbrev pub event_of : Entry → Event
+event_of e = e.event
+
+same_at : (k : Seats) → IsSameSeat k k
+same_at k = (refl, refl, refl, refl, refl, refl)
+
+-- nothing was done
+pub did_nothing : (k : Seats) → HasItsOwn seat_of k → Did k k []
+did_nothing k own = record { same = same_at k; stand = none k.base; mine = sym (append-nil k.mine); own = own }
+  where
+    none : (base : Option Base) → IfSome base (λ b. Stand b k.number k.seen [] k.seen)
+    none None = tt
+    none (Some b) = stays k.number k.seen
+
+same_both : (k l m : Seats) → IsSameSeat k l → IsSameSeat l m → IsSameSeat k m
+same_both k l m a b = (b.0 ∙ a.0, b.1 ∙ a.1, b.2 ∙ a.2, b.3 ∙ a.3, b.4 ∙ a.4, b.5 ∙ a.5)
+
+-- one thing was done, and then another
+pub did_both : (k l m : Seats) (acts next : List Act) → Did k l acts → Did l m next → Did k m (acts ++ next)
+did_both k l m acts next a b =
+    let second : IfSome k.base (λ base. Stand base k.number l.seen next m.seen) =
+    subst (λ n. IfSome k.base (λ base. Stand base n l.seen next m.seen)) a.same.2 (subst (λ x. IfSome x (λ base. Stand base l.number l.seen next m.seen)) a.same.3 b.stand) in
+    record {
+      same = same_both k l m a.same b.same;
+      stand = stand k.base a.stand second;
+      mine = b.mine ∙ ap (λ x. x ++ made_by l.number next) a.mine ∙ append_assoc k.mine (made_by k.number acts) (made_by l.number next)
+          ∙ ap (λ n. k.mine ++ (made_by k.number acts ++ made_by n next)) a.same.2 ∙ ap (λ x. k.mine ++ x) (sym (made_both k.number acts next));
+      own = b.own;
+    }
+  where
+    stand : (base : Option Base) → IfSome base (λ b. Stand b k.number k.seen acts l.seen) → IfSome base (λ b. Stand b k.number l.seen next m.seen) → IfSome base (λ b. Stand b k.number k.seen (acts ++ next) m.seen)
+    stand None x y = tt
+    stand (Some b) x y = stand_both b k.number acts next k.seen l.seen m.seen x y
+
+nothing_between : {A : Type 0} (mine more : List A) → mine ≡ mine ++ more → more ≡ []
+nothing_between mine [] e = refl
+nothing_between mine (x ∷ xs) e = absurd (longer (ap length e ∙ length-append mine (x ∷ xs)))
+  where
+    longer : length mine ≡ length mine + length (x ∷ xs) → ⊥
+    longer h = omega (arith, h)
+
+-- what a seat had seen goes on without an entry of its own
+between : (k l : Seats) (more : List Entry) → HasItsOwn seat_of k → HasItsOwn seat_of l → l.number ≡ k.number → l.seen ≡ k.seen ++ more → l.mine ≡ k.mine → entries_of k.number more ≡ []
+between k l more own now same seen mine =
+    nothing_between k.mine (entries_of k.number more)
+    (sym mine ∙ now ∙ ap (λ n. entries_of n l.seen) same ∙ ap (entries_of k.number) seen ∙ entries_both k.number k.seen more ∙ ap (λ x. x ++ entries_of k.number more) (sym own))
+
+-- an event was refused, since the session is full, or memory was wanting
+pub did_refuse : (k l : Seats) (event : Event) (full : Numbers) → HasItsOwn seat_of k → HasItsOwn seat_of l → IsSameSeat k l
+    → NotTaken Refuses k l event (step.SessionFull full.entries full.bytes) → Did k l (refused event full ∷ [])
+did_refuse k l event full own now same n =
+    let free = between k l n.after.0 own now same.2 (sym n.after.1) n.mine in
+    record {
+      same = same;
+      stand = subst (λ x. IfSome x (λ base. Stand base k.number k.seen (refused event full ∷ []) l.seen)) (sym n.based)
+          (l.seen, (n.after.0, sym n.after.1, free), (n.fault.0, n.fault.1, n.fault.2), stays k.number l.seen);
+      mine = n.mine ∙ sym (append-nil k.mine);
+      own = now;
+    }
+
+pub did_lack : (k l : Seats) (event : Event) → HasItsOwn seat_of k → HasItsOwn seat_of l → IsSameSeat k l → NotTaken Refuses k l event step.Memory → Did k l []
+did_lack k l event own now same n =
+    let free = between k l n.after.0 own now same.2 (sym n.after.1) n.mine in
+    record {
+      same = same;
+      stand = subst (λ x. IfSome x (λ base. Stand base k.number k.seen [] l.seen)) (sym n.based) (n.after.0, sym n.after.1, free);
+      mine = n.mine ∙ sym (append-nil k.mine);
+      own = now;
+    }
+
+-- an event was taken
+is_entry : (entry : Entry) (n : ℕ) (event : Event) → entry.seat ≡ n → entry.event ≡ event → entry ≡ entry_of n event entry.kept
+is_entry entry n event s e = ap (λ x. record { seat = x; event = entry.event; kept = entry.kept }) s ∙ ap (λ x. record { seat = n; event = x; kept = entry.kept }) e
+
+own_one : (n : ℕ) (event : Event) (kept : Bool) → entries_of n (entry_of n event kept ∷ []) ≡ entry_of n event kept ∷ []
+own_one n event kept = grind (arith, rules)
+
+same_end : {A : Type 0} (mine more : List A) (x : A) → mine ++ x ∷ [] ≡ mine ++ (more ++ x ∷ []) → more ≡ []
+same_end mine [] x e = refl
+same_end mine (y ∷ ys) x e = absurd (longer (sym (length-append mine (x ∷ [])) ∙ ap length e ∙ length-append mine (y ∷ (ys ++ x ∷ []))) (length-append ys (x ∷ [])))
+  where
+    longer : length mine + length (x ∷ []) ≡ length mine + length (y ∷ (ys ++ x ∷ [])) → length (ys ++ x ∷ []) ≡ length ys + length (x ∷ []) → ⊥
+    longer h l = omega (arith, h, l)
+
+pub did_take : (k l : Seats) (event : Event) (reply : Reply) → HasItsOwn seat_of k → HasItsOwn seat_of l → IsSameSeat k l
+    → Taken seat_of event_of Answers k l event reply → (kept : Bool) × Did k l (took event kept reply ∷ [])
+did_take k l event reply own now same t =
+    let n = k.number in
+    let kept = t.entry.kept in
+    let e : Entry = entry_of n event kept in
+    let is : t.entry ≡ e = is_entry t.entry n event t.seat t.event in
+    let more = t.after.0 in
+    let seen : l.seen ≡ t.before ++ e ∷ [] = t.seen ∙ ap (λ x. t.before ++ x ∷ []) is in
+    let mine : l.mine ≡ k.mine ++ e ∷ [] = t.mine ∙ ap (λ x. k.mine ++ x ∷ []) is in
+    let whole : entries_of n l.seen ≡ k.mine ++ (entries_of n more ++ e ∷ []) =
+    ap (entries_of n) seen ∙ entries_both n t.before (e ∷ []) ∙ ap (λ x. entries_of n t.before ++ x) (own_one n event kept)
+    ∙ ap (λ x. entries_of n x ++ e ∷ []) (sym t.after.1) ∙ ap (λ x. x ++ e ∷ []) (entries_both n k.seen more)
+    ∙ ap (λ x. (x ++ entries_of n more) ++ e ∷ []) (sym own) ∙ append_assoc k.mine (entries_of n more) (e ∷ []) in
+    let free : entries_of n more ≡ [] = same_end k.mine (entries_of n more) e (sym mine ∙ now ∙ ap (λ x. entries_of x l.seen) same.2 ∙ whole) in (
+      kept,
+      record {
+        same = same;
+        stand = subst (λ x. IfSome x (λ base. Stand base n k.seen (took event kept reply ∷ []) l.seen)) (sym t.based)
+            (t.before, (more, sym t.after.1, free), subst (λ x. Answers t.base t.before x reply) is t.reply, subst (λ x. WentOn n (t.before ++ e ∷ []) x) (sym seen) (stays n (t.before ++ e ∷ [])));
+        mine = mine;
+        own = now;
+      },
+    )
+
+-- where an event was taken, what follows its reply follows the step
+pub goes_through : (k l m : Seats) (event : Event) (reply : Reply) (next : Reply → Call) (called : Called) (closing : Bool)
+    → ((kept : Bool) × Did k l (took event kept reply ∷ [])) → leaves_closing event reply ≡ false
+    → ((acts : List Act) × Did l m acts × Reaches (next reply) acts called × (closing ≡ tell_closing acts))
+    → (acts : List Act) × Did k m acts × Reaches (asks event next) acts called × (closing ≡ tell_closing acts)
+goes_through k l m event reply next (Answered cause bytes closes) closing first open_still then = (
+  took event first.0 reply ∷ then.0,
+  did_both k l m (took event first.0 reply ∷ []) then.0 first.1 then.1,
+  (refl, then.2),
+  then.3 ∙ ap (λ b. b || tell_closing then.0) (sym open_still),
+)
+goes_through k l m event reply next (Full full) closing first open_still then = (
+  took event first.0 reply ∷ then.0,
+  did_both k l m (took event first.0 reply ∷ []) then.0 first.1 then.1,
+  (then.2.0, (refl, then.2.1), took event first.0 reply ∷ then.2.2, then.2.3, ap (λ acts. took event first.0 reply ∷ acts) then.2.4),
+  then.3 ∙ ap (λ b. b || tell_closing then.0) (sym open_still),
+)
+goes_through k l m event reply next Memory closing first open_still then = (
+  took event first.0 reply ∷ then.0,
+  did_both k l m (took event first.0 reply ∷ []) then.0 first.1 then.1,
+  (then.2.0, (refl, then.2.1)),
+  then.3 ∙ ap (λ b. b || tell_closing then.0) (sym open_still),
+)
+
+-- the last step was taken: its answer stands there
+or_none : (b : Bool) → b ≡ (b || false)
+or_none true = refl
+or_none false = refl
+
+pub goes_last : (k l : Seats) (event : Event) (reply : Reply) (next : Reply → Call) (called : Called) (closing : Bool)
+    → ((kept : Bool) × Did k l (took event kept reply ∷ [])) → closing ≡ leaves_closing event reply → Gives (next reply) called
+    → (acts : List Act) × Did k l acts × Reaches (asks event next) acts called × (closing ≡ tell_closing acts)
+goes_last k l event reply next (Answered cause bytes closes) closing first tells gives =
+    (took event first.0 reply ∷ [], first.1, (refl, sym gives), tells ∙ or_none (leaves_closing event reply))
+goes_last k l event reply next (Full full) closing first tells gives = absurd gives
+goes_last k l event reply next Memory closing first tells gives =
+    (took event first.0 reply ∷ [], first.1, (next reply, (refl, refl)), tells ∙ or_none (leaves_closing event reply))
+
+-- a step was refused
+pub goes_nowhere : (k l : Seats) (event : Event) (next : Reply → Call) (fault : StepFault) → HasItsOwn seat_of k → HasItsOwn seat_of l → IsSameSeat k l → NotTaken Refuses k l event fault
+    → (acts : List Act) × Did k l acts × Reaches (asks event next) acts (called_by fault) × (false ≡ tell_closing acts)
+goes_nowhere k l event next (step.SessionFull entries bytes) own now same n =
+    let full : Numbers = record { entries = entries; bytes = bytes } in
+    (refused event full ∷ [], did_refuse k l event full own now same n, (asks event next, (refl, refl, refl), [], event, refl), refl)
+goes_nowhere k l event next step.Memory own now same n = ([], did_lack k l event own now same n, (asks event next, refl), refl)
+
+-- memory was wanting before anything was done
+pub goes_not : (k : Seats) (call : Call) → HasItsOwn seat_of k → (acts : List Act) × Did k k acts × Reaches call acts Memory × (false ≡ tell_closing acts)
+goes_not k call own = ([], did_nothing k own, (call, refl), refl)

@@ -1,0 +1,61 @@
+-- Each answer names its cause.
+use Rattle.std.proofs.Common.{◌≡◌, ℕ, Bool, true, false, List, Option, Result, Ok, Err, refl}
+use Rattle.book_rules.specs.declared.replies.Reply.{Reply}
+use Rattle.book_rules.specs.declared.replies.Reply.TheVariants.{Entered, NoStage, Store, Left, Done, Deployed, Refused}
+use Rattle.book_rules.specs.declared.replies.View.{View}
+use Rattle.call_facts.specs.Target.{target_of}
+use Rattle.call_facts.specs.declared.kind.Kind.{Kind}
+use Rattle.call_facts.specs.declared.request.Request.{Request}
+use Rattle.call_facts.specs.declared.target.Target.{Target}
+use Rattle.gate_walk.specs.Answering.{made_at, made_by, made_for}
+use Rattle.gate_walk.specs.Laws.{NamesItsCause, causes_in, names_of}
+use Rattle.gate_walk.specs.Walk.{is_head, leaves, walk}
+use Rattle.gate_walk.specs.declared.message.Message.{Message}
+use Rattle.gate_walk.proofs.Ways.{Each, each_answer}
+use Rattle.http_edge.specs.Answers.{spelled}
+use Rattle.method_flow.specs.Answers.{gateway_answer, gateway_made, text_answer, text_made}
+use Rattle.method_flow.specs.declared.answers.Made.{Made}
+use Rattle.vtl_eval.specs.declared.stop.Rendered.{Rendered}
+use Rattle.vtl_eval.specs.declared.stop.Stop.{Stop}
+
+abbrev Names : Made → Type 0
+Names made = causes_in made.answer.headers ≡ names_of made.cause
+
+of_gateway : (kind : Kind) → Names (gateway_made kind)
+unfolding gateway_answer
+of_gateway kind = refl
+
+of_text : (r : Result Rendered Stop) → Names (text_made r)
+unfolding text_answer
+of_text (Ok rendered) = refl
+of_text (Err stop) = of_gateway _
+
+at_view : (is_text : Bool) (view : View) (r : Request) (target : Target) → Names (made_at is_text view r target)
+at_view true view r target = of_text _
+at_view false view r target = of_gateway _
+
+by_reply : (reply : Reply) (r : Request) (target : Target) → Names (made_by reply r target)
+by_reply (Entered view) r target = at_view view.api.is_text view r target
+by_reply NoStage r target = of_gateway _
+by_reply Store r target = of_gateway _
+by_reply (Left closing) r target = of_gateway _
+by_reply Done r target = of_gateway _
+by_reply (Deployed number) r target = of_gateway _
+by_reply (Refused refusal) r target = of_gateway _
+
+for_message : (large : Bool) (reply : Reply) (r : Request) (target : Target) → Names (made_for large reply r target)
+for_message true reply r target = of_gateway _
+for_message false reply r target = by_reply reply r target
+
+abbrev Named : Message → Option Kind → List ℕ → Bool → Bool → Type 0
+Named m cause bytes closing told = (made : Made) × (made.cause ≡ cause) × (bytes ≡ spelled made.answer (is_head m.request) closing) × (causes_in made.answer.headers ≡ names_of cause)
+
+on_leave : (m : Message) (made : Made) → Names made → Each (Named m) false (leaves m made)
+on_leave m made names reply = (made, refl, refl, names)
+
+on_way : (m : Message) → Each (Named m) false (walk m)
+unfolding walk
+on_way m reply = on_leave m (made_for m.too_large reply m.request (target_of m.request.target)) (for_message m.too_large reply m.request (target_of m.request.target))
+
+pub names_its_cause : NamesItsCause
+names_its_cause m acts cause bytes closing g = each_answer (Named m) acts false (walk m) cause bytes closing (on_way m) g

@@ -1,0 +1,4 @@
+mod Causes
+pub mod Standing
+pub mod Telling
+pub mod Ways

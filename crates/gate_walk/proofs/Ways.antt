@@ -1,0 +1,105 @@
+-- What holds of every way of a message.
+use Rattle.std.proofs.Common.{◌≡◌, ℕ, ◌+◌, ◌≤◌, ◌==◌, arith, Bool, true, false, ◌||◌, List, [], ◌∷◌, Option, ap, sym, subst, refl}
+use Rattle.backend_core.specs.declared.outcome.Outcome.{Outcome}
+use Rattle.book_rules.specs.declared.replies.Reply.{Reply}
+use Rattle.call_facts.specs.Target.{target_of}
+use Rattle.call_facts.specs.declared.kind.Kind.{Kind}
+use Rattle.call_facts.specs.declared.request.Request.{Request}
+use Rattle.std.proofs.lemmas.Grind.{common_steps}
+use Rattle.gate_walk.specs.Acts.{Act, took, refused, sent, Goes, sent_by, given_to, leaves_closing, tell_closing}
+use Rattle.gate_walk.specs.Answering.{made_for}
+use Rattle.gate_walk.specs.Closing.{asks_close, closes, most_messages}
+use Rattle.gate_walk.specs.Walk.{Call, asks, sends, answers, closing_by, leaves, walk}
+use Rattle.gate_walk.specs.declared.message.Message.{Message}
+use Rattle.method_flow.specs.declared.answers.Made.{Made}
+
+-- It holds of each answer that a way may come to, with whether a Leave on it was replied that the session is closing.
+abbrev pub Each : (Option Kind → List ℕ → Bool → Bool → Type 0) → Bool → Call → Type 0
+Each P closing (asks event next) = (reply : Reply) → Each P (closing || leaves_closing event reply) (next reply)
+Each P closing (sends request next) = (outcome : Outcome) → Each P closing (next outcome)
+Each P closing (answers cause bytes closes) = P cause bytes closes closing
+
+or_none : (b : Bool) → (b || false) ≡ b
+or_none true = refl
+or_none false = refl
+
+or_assoc : (a b c : Bool) → ((a || b) || c) ≡ (a || (b || c))
+or_assoc true b c = refl
+or_assoc false b c = refl
+
+-- and so of the one that it came to
+pub each_answer : (P : Option Kind → List ℕ → Bool → Bool → Type 0) (acts : List Act) (closing : Bool) (call : Call) (cause : Option Kind) (bytes : List ℕ) (closes : Bool)
+    → Each P closing call → Goes call acts (answers cause bytes closes) → P cause bytes closes (closing || tell_closing acts)
+each_answer P [] closing call cause bytes closes h g =
+    subst (P cause bytes closes) (sym (or_none closing)) (subst (Each P closing) (sym g) h)
+each_answer P (took event kept reply ∷ acts) closing (asks e next) cause bytes closes h g =
+    let on = each_answer P acts (closing || leaves_closing e reply) (next reply) cause bytes closes (h reply) g.1 in
+    subst (λ x. P cause bytes closes (closing || (leaves_closing x reply || tell_closing acts))) (sym g.0)
+    (subst (P cause bytes closes) (or_assoc closing (leaves_closing e reply) (tell_closing acts)) on)
+each_answer P (took event kept reply ∷ acts) closing (sends request next) cause bytes closes h g = absurd g
+each_answer P (took event kept reply ∷ acts) closing (answers a b c) cause bytes closes h g = absurd g
+each_answer P (refused event full ∷ acts) closing (asks e next) cause bytes closes h g = absurd (no_answer g.2)
+  where
+    no_answer : answers cause bytes closes ≡ asks e next → ⊥
+    no_answer e = cc
+each_answer P (refused event full ∷ acts) closing (sends request next) cause bytes closes h g = absurd g
+each_answer P (refused event full ∷ acts) closing (answers a b c) cause bytes closes h g = absurd g
+each_answer P (sent request outcome ∷ acts) closing (asks e next) cause bytes closes h g = absurd g
+each_answer P (sent request outcome ∷ acts) closing (sends other next) cause bytes closes h g =
+    each_answer P acts closing (next outcome) cause bytes closes (h outcome) g.1
+each_answer P (sent request outcome ∷ acts) closing (answers a b c) cause bytes closes h g = absurd g
+
+or_parts : (a b : Bool) → (a || b) ≡ false → (a ≡ false) × (b ≡ false)
+or_parts true b e = absurd cc
+or_parts false b e = (refl, e)
+
+-- The connection stays open only behind a message that does not close it, and where no Leave was replied that the session is closing.
+abbrev Closes : Message → Option Kind → List ℕ → Bool → Bool → Type 0
+Closes m cause bytes stays closing = stays ≡ false → (closes m.number m.too_large m.request ≡ false) × (closing ≡ false)
+
+leaves_closes : (m : Message) (made : Made) → Each (Closes m) false (leaves m made)
+leaves_closes m made reply open_still = or_parts (closes m.number m.too_large m.request) (closing_by reply) open_still
+
+walk_closes : (m : Message) → Each (Closes m) false (walk m)
+unfolding walk
+walk_closes m reply = leaves_closes m (made_for m.too_large reply m.request (target_of m.request.target))
+
+pub stays_open : (m : Message) (acts : List Act) (cause : Option Kind) (bytes : List ℕ) (closing : Bool)
+    → Goes (walk m) acts (answers cause bytes closing) → closing ≡ false → (closes m.number m.too_large m.request ≡ false) × (tell_closing acts ≡ false)
+stays_open m acts cause bytes closing g e = each_answer (Closes m) acts false (walk m) cause bytes closing (walk_closes m) g e
+
+-- No backend is asked on it.
+abbrev AsksNone : Call → Type 0
+AsksNone (asks event next) = (reply : Reply) → AsksNone (next reply)
+AsksNone (sends request next) = ⊥
+AsksNone (answers cause bytes closes) = Unit {0}
+
+none_sent : (acts : List Act) (call after : Call) → AsksNone call → Goes call acts after → (sent_by acts ≡ []) × (given_to acts ≡ [])
+none_sent [] call after h g = (refl, refl)
+none_sent (took event kept reply ∷ acts) (asks e next) after h g = none_sent acts (next reply) after (h reply) g.1
+none_sent (took event kept reply ∷ acts) (sends request next) after h g = absurd g
+none_sent (took event kept reply ∷ acts) (answers a b c) after h g = absurd g
+none_sent (refused event full ∷ acts) (asks e next) after h g = (ap sent_by g.1, ap given_to g.1)
+none_sent (refused event full ∷ acts) (sends request next) after h g = absurd g
+none_sent (refused event full ∷ acts) (answers a b c) after h g = absurd g
+none_sent (sent request outcome ∷ acts) (asks e next) after h g = absurd g
+none_sent (sent request outcome ∷ acts) (sends other next) after h g = absurd h
+none_sent (sent request outcome ∷ acts) (answers a b c) after h g = absurd g
+
+walk_asks_none : (m : Message) → AsksNone (walk m)
+unfolding walk
+walk_asks_none m reply left = tt
+
+pub none_is_sent : (m : Message) (acts : List Act) (after : Call) → Goes (walk m) acts after → (sent_by acts ≡ []) × (given_to acts ≡ [])
+none_is_sent m acts after g = none_sent acts (walk m) after (walk_asks_none m) g
+
+last_stays : (number : ℕ) → number ≤ 1000 → (number == 1000) ≡ false → number + 1 ≤ 1000
+last_stays number h e = grind (arith, common_steps)
+
+-- the thousandth message is the last
+pub another : (number : ℕ) (large : Bool) (r : Request) → number ≤ 1000 → closes number large r ≡ false → number + 1 ≤ 1000
+unfolding most_messages
+another number large r h e =
+    let unasked = (or_parts large (r.http10 || (asks_close r || number == 1000)) e).1 in
+    let unnumbered = (or_parts r.http10 (asks_close r || number == 1000) unasked).1 in
+    last_stays number h (or_parts (asks_close r) (number == 1000) unnumbered).1

@@ -1,0 +1,43 @@
+-- The answer to a message, and its cause.
+use Rattle.std.specs.Prelude.{Bool, true, false, [], None}
+use Rattle.book_rules.specs.declared.replies.Reply.{Reply}
+use Rattle.book_rules.specs.declared.replies.Reply.TheVariants.{Entered}
+use Rattle.book_rules.specs.declared.replies.View.{View}
+use Rattle.call_facts.specs.declared.facts.CallFacts.{CallFacts}
+use Rattle.call_facts.specs.declared.kind.Kind.TheVariants.{ApiConfigurationError, RequestTooLarge, UnknownStage}
+use Rattle.call_facts.specs.declared.request.Request.{Request}
+use Rattle.call_facts.specs.declared.target.Target.{Target}
+use Rattle.method_flow.specs.Answers.{gateway_made, text_over, text_made}
+use Rattle.method_flow.specs.declared.answers.Made.{Made}
+use Rattle.vtl_grammar.specs.Templates.{tree_of}
+
+-- what is known of a call to a stage that has this view
+abbrev pub facts_of : Target → View → CallFacts
+facts_of target view = record {
+  api = target.api;
+  stage = target.stage;
+  place = view.place;
+  at = view.at;
+  deployment = view.deployment;
+  canary = view.canary;
+  variables = view.variables;
+  resource = [];
+  key = None;
+  policy = None;
+  error = None;
+}
+
+-- under a stage that has this view: a text API answers with its template, and an API of a document is not answered yet
+abbrev pub made_at : Bool → View → Request → Target → Made
+made_at true view r target = text_made (text_over r target (facts_of target view) (tree_of view.api.source))
+made_at false view r target = gateway_made ApiConfigurationError
+
+-- to a whole message whose Enter was replied so
+abbrev pub made_by : Reply → Request → Target → Made
+made_by (Entered view) r target = made_at view.api.is_text view r target
+made_by reply r target = gateway_made UnknownStage
+
+-- the size of a body is tested before its stage
+abbrev pub made_for : Bool → Reply → Request → Target → Made
+made_for true reply r target = gateway_made RequestTooLarge
+made_for false reply r target = made_by reply r target

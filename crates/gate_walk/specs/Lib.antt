@@ -1,0 +1,18 @@
+-- whether a connection closes behind a message
+pub mod Closing
+-- the answer to a message, and its cause
+pub mod Answering
+-- the way of one message through the gateway
+pub mod Walk
+-- what is done on a message's way, and how it stands in the history
+pub mod Acts
+-- what was done on one connection
+pub mod Stories
+-- what is done on the connections of one lane
+pub mod Lanes
+-- how a connection ends by a fault of its input
+pub mod Ends
+-- what holds of ways and of histories
+pub mod Laws
+-- how the end of a connection is printed
+pub mod Printed

@@ -1,0 +1,60 @@
+-- The way of one message through the gateway, as a tree of what is asked next.
+use Rattle.std.specs.Prelude.{ℕ, Bool, false, ◌||◌, List, codes, Option}
+use Rattle.std.specs.Str.{bytes_eq}
+use Rattle.backend_core.specs.declared.outcome.Outcome.{Outcome}
+use Rattle.backend_core.specs.declared.request.WireRequest.{WireRequest}
+use Rattle.book_rules.specs.declared.events.Event.{Event}
+use Rattle.book_rules.specs.declared.events.Event.TheVariants.{Enter, Leave}
+use Rattle.book_rules.specs.declared.replies.Reply.{Reply}
+use Rattle.book_rules.specs.declared.replies.Reply.TheVariants.{Entered, NoStage, Store, Left, Done, Deployed, Refused}
+use Rattle.call_facts.specs.Target.{target_of}
+use Rattle.call_facts.specs.declared.kind.Kind.{Kind}
+use Rattle.call_facts.specs.declared.request.Request.{Request}
+use Rattle.call_facts.specs.declared.target.Target.{Target}
+use Rattle.gate_walk.specs.Answering.{made_for}
+use Rattle.gate_walk.specs.Closing.{closes}
+use Rattle.gate_walk.specs.declared.message.Message.{Message}
+use Rattle.http_edge.specs.Answers.{spelled}
+use Rattle.method_flow.specs.declared.answers.Made.{Made}
+
+-- What comes next: a step of the book, and what its reply leads to; an exchange with a backend, and what its outcome leads to; or
+-- the answer, with its cause, its bytes, and whether the connection closes behind it.
+pub data Call : Type 0 where
+  asks : Event → (Reply → Call) → Call
+  sends : WireRequest → (Outcome → Call) → Call
+  answers : Option Kind → List ℕ → Bool → Call
+
+-- a reply to a Leave tells that the session is closing
+abbrev pub closing_by : Reply → Bool
+closing_by (Left closing) = closing
+closing_by (Entered view) = false
+closing_by NoStage = false
+closing_by Store = false
+closing_by Done = false
+closing_by (Deployed number) = false
+closing_by (Refused refusal) = false
+
+abbrev pub is_head : Request → Bool
+is_head r = bytes_eq r.method (codes "HEAD")
+
+-- the connection closes behind a message that left with this reply: by itself, or since the session is closing
+abbrev pub closes_by : Message → Reply → Bool
+closes_by m reply = closes m.number m.too_large m.request || closing_by reply
+
+abbrev pub answered : Message → Made → Reply → Call
+answered m made reply = answers made.cause (spelled made.answer (is_head m.request) (closes_by m reply)) (closes_by m reply)
+
+-- a message with this answer leaves, before the first byte of it is written
+abbrev pub leaves : Message → Made → Call
+leaves m made = asks (Leave made.answer.status made.cause) (answered m made)
+
+-- what follows its Enter
+abbrev pub entered : Message → Target → Reply → Call
+entered m target reply = leaves m (made_for m.too_large reply m.request target)
+
+abbrev pub walk_to : Message → Target → Call
+walk_to m target = asks (Enter m.moment m.word target.api target.stage) (entered m target)
+
+-- the whole way: it enters at the stage that its target names
+unfoldable pub walk : Message → Call
+walk m = walk_to m (target_of m.request.target)

@@ -1,0 +1,42 @@
+//! The way of a message through the gateway, the story of a connection, and the connections of a lane: definitions, with the
+//! little that is computed of a message alone.
+//!
+//! A way (`walk`) is a tree of what is asked next: a step of the book, and what each reply to it leads to; an exchange with a
+//! backend; or the answer, with its cause. What was done is a list of acts, which lead along the tree (`Goes`) and stand in
+//! the book's one history, with other seats' entries between them (`Stand`). A further capability of the gateway is a further
+//! step of the tree, and changes neither what an act is nor what a story is.
+//!
+//! ```text
+//! POST /hello/v1, body Ann:  asks Enter  ->  Entered, the stage's view
+//!                            asks Leave  ->  Left, whether the session is closing
+//!                            answers     200, `Hi Ann!`, no cause, the connection stays open
+//! ```
+//!
+//! | A message | Its way |
+//! |---|---|
+//! | to a stage of a text API | Enter, Leave with 200; the text of the template over the view of its Enter |
+//! | whose render stops | Enter, Leave with 500 and `API_CONFIGURATION_ERROR` |
+//! | to a stage that is not there | Enter, Leave with 403 and `UNKNOWN_STAGE` |
+//! | whose body is too large | Enter, Leave with 413 and `REQUEST_TOO_LARGE`, whatever its stage; the connection closes |
+//! | where the session is full | Enter or Leave, refused: nothing follows |
+//!
+//! * [`Message`] is a message with its number on the connection, its moment and its word of chance; [`answer_for`] makes what is
+//!   answered to it by the reply to its Enter, and [`closes`] tells whether the connection closes behind it (RFC 9112, section 9.6).
+//! * [`Ended`] is how a connection ended, and [`LaneEnd`] how a lane did.
+//!
+//! What is promised: `answer_for` and `closes` are their definitions (`made_for`, `specs/Answering.antt`; `closes`,
+//! `specs/Closing.antt`), and an end is printed as `ended_name` says. `specs/Stories.antt` says what a connection's story is by
+//! each of its nine ends (`Tells`), `specs/Lanes.antt` the same of a lane. As laws, [`laws`]: what stands in a history stands in
+//! each longer one without an entry of that seat, and each answer names the one cause that it has.
+#![tactic(auto)]
+
+mod answering;
+mod closing;
+mod ended;
+pub mod laws;
+mod message;
+
+pub use answering::answer_for;
+pub use closing::closes;
+pub use ended::{Ended, LaneEnd, SessionFull};
+pub use message::Message;

@@ -1,0 +1,2 @@
+-- before a line is written
+pub mod Announced

@@ -1,0 +1,109 @@
+// A port whose connections come from a listener.
+ghost use Rattle.std.specs.Prelude.{None, IfOk, IfSome};
+ghost use Rattle.gateway_outside.specs.Stands.{PortStand, IsFresh, IsUnfailed};
+
+use crate::conn::SocketConn;
+use crate::door::Door;
+use gate_ports::{Accepted, Port};
+use gw_base::{Failed, Shared};
+use std::io::{self, ErrorKind};
+use std::marker::Model;
+use std::thread;
+use std::time::{Clock, Duration};
+
+// How many milliseconds a lane sleeps after a look that found nothing, so that it takes no processor while it waits.
+const NAP: u64 = 2;
+
+/// A port of a listener that several may share. Once one of them was shut, each look of any of them answers `Ended`.
+#[derive(Drop)]
+pub struct SocketPort<'r, R: Clock> {
+    rt: &'r R,
+    door: Shared<Door>,
+    closed: bool,
+    out: bool,
+    faults: u64,
+}
+
+impl<'r, R: Clock> Model for SocketPort<'r, R> {
+    ghost use Rattle.gateway_outside.specs.Stands.{PortStand};
+
+    ghost Value = { PortStand };
+
+    ghost view = { λ p. record { closed = p.closed; out = p.out; faults = p.faults } };
+}
+
+impl<'r, R: Clock> SocketPort<'r, R> {
+    pub(crate) fn new(rt: &'r R, door: Shared<Door>) -> Self
+        ensures { IsFresh result }
+    {
+        SocketPort {
+            rt,
+            door,
+            closed: false,
+            out: false,
+            faults: 0,
+        }
+    }
+
+    /// The number of the port that is listened at, where the system tells it.
+    pub fn number(&self) -> Option<u16> {
+        self.door.value().number()
+    }
+
+    // A connection that waits; where none does, or the look fails, a short sleep first.
+    fn look(&self) -> io::Result<Option<SocketConn<'r, R>>>
+        ensures { IfOk result (λ found. IfSome found IsUnfailed) }
+    {
+        match self.door.value().accept() {
+            Ok(stream) => Ok(Some(SocketConn::begin(self.rt, stream)?)),
+            Err(fault) => {
+                thread::sleep(self.rt, Duration::from_millis(NAP));
+                if fault.kind() == ErrorKind::WouldBlock {
+                    Ok(None)
+                } else {
+                    Err(fault)
+                }
+            }
+        }
+    }
+}
+
+impl<'r, R: Clock> Port for SocketPort<'r, R> {
+    type Link = SocketConn<'r, R>;
+
+    ghost coming = { λ _. None };
+
+    ghost served = { λ _. None };
+
+    ghost closed = { λ p. p.closed };
+
+    ghost out = { λ p. p.out };
+
+    ghost faults = { λ p. p.faults };
+
+    fn accept(&mut self) -> Result<Accepted<SocketConn<'r, R>>, Failed> {
+        if self.closed || self.door.value().is_shut() {
+            return Ok(Accepted::Ended);
+        }
+        match self.look() {
+            Ok(Some(conn)) => {
+                self.out = true;
+                Ok(Accepted::Conn(conn))
+            }
+            Ok(None) => Ok(Accepted::NotYet),
+            Err(_) => {
+                self.faults = self.faults.saturating_add(1);
+                Err(Failed)
+            }
+        }
+    }
+
+    fn shut(&mut self) {
+        self.closed = true;
+        self.door.value().shut();
+    }
+
+    fn done(&mut self, _link: SocketConn<'r, R>) {
+        self.out = false;
+    }
+}

@@ -1,7 +1,7 @@
 -- Scripts over their limit, and within it.
 use Rattle.play_script.proofs.Playing.{opened_nothing, says_front}
 use Rattle.book_rules.specs.declared.events.Limits.{Limits}
-use Rattle.std.proofs.Common.{◌≡◌, ℕ, Bool, ◌<◌, ◌≤◌, ◌++◌, true, false, nat_lt, List, [], length, Option, Result, Ok, Err, IfOk, OnOk, OnErr, refl, sym, ap, subst, arith}
+use Rattle.std.proofs.Common.{◌≡◌, ℕ, Bool, ◌<◌, ◌≤◌, ◌++◌, true, false, nat_lt, List, [], length, Option, Result, Ok, Err, IfOk, OnOk, OnErr, refl, sym, ap, ◌∙◌, subst, arith}
 use Rattle.std.proofs.lemmas.Grind.{common_steps}
 use borrow.Author.Tests.{lt-ltb}
 use Rattle.std.specs.Io.KnownBytes.{Appends}
@@ -84,3 +84,22 @@ pub told_by_script : (script : List ℕ) (stop : PlayStop) (told : Stopped) → 
 told_by_script script play.Keeper told h is named e = told_to_fail script h (named refl)
 told_by_script script play.Output told h is named e = absurd cc
 told_by_script script play.Memory told h is named e = absurd cc
+
+-- a script over its limit told nothing
+pub nothing_told : (script : List ℕ) → 67108864 < length script → FailsToLoad script → ⊥
+unfolding FailsToLoad
+nothing_told script h told = differ (sym (over script h) ∙ told.0)
+  where
+    differ : true ≡ false → ⊥
+    differ e = cc
+
+-- and the program stops for the output only where the load was not told to fail
+pub not_told_by_script : (script : List ℕ) (stop : PlayStop) (told : Stopped) → told ≡ play_stopped_by stop
+    → (stop ≡ play.Output → names_load (opening_of script) ≡ false) → told ≡ stopped.Output → FailsToLoad script → ⊥
+unfolding FailsToLoad
+not_told_by_script script play.Keeper told is named e fails = absurd cc
+not_told_by_script script play.Output told is named e fails = differ (sym fails.1 ∙ named refl)
+  where
+    differ : true ≡ false → ⊥
+    differ e = cc
+not_told_by_script script play.Memory told is named e fails = absurd cc

@@ -41,13 +41,14 @@ Names old new Front count name = Rose count.before count.now × SaysFault old ne
 abbrev pub Stands : Count → Type 0
 Stands count = count.now ≡ count.before
 
--- The line names the first cause, in the order in which they come: the count of the input, that of the files or that of the output rose,
--- and the counts before it stand; or the load of a play's keeper was told to fail, and nothing came before it.
+-- The line names the first cause, in the order in which they come: the count of the input or that of the files rose, and the counts
+-- before it stand; the load of a play's keeper was told to fail, and nothing came before it; or the count of the output rose, and neither
+-- did.
 abbrev pub Faulted : Option (List ℕ) → Option (List ℕ) → (List ℕ → Type 0) → Count → Count → Count → Type 0 → Type 0
 Faulted old new Front input files output load =
     Names old new Front input (codes "input")
     ⊎ ((Stands input × Names old new Front files (codes "file"))
-    ⊎ ((Stands input × Stands files × Names old new Front output (codes "output"))
+    ⊎ ((Stands input × Stands files × (load → ⊥) × Names old new Front output (codes "output"))
     ⊎ (Stands input × Stands files × load × SaysFault old new Front (codes "keeper"))))
 
 -- why the program stops where a write was refused

@@ -58,6 +58,7 @@ fn play_script<W: Sink, R: Wait>(
     ensures file { result ≢ Err Stopped.File }
     ensures keeper { IsErrOf result Stopped.Keeper → FailsToLoad script.now }
     ensures output { IsErrOf result Stopped.Output → Rose (W.faults output.old) (W.faults output.new) }
+    ensures loaded { IsErrOf result Stopped.Output → FailsToLoad script.now → ⊥ }
 {
     match play_within(rt, alloc, SESSION_LIMITS, script, output) {
         Ok(status) => Ok(status),
@@ -94,6 +95,7 @@ fn play<I: Source, W: Sink, R: Wait>(
     ensures keeper { IsErrOf result Stopped.Keeper → OfTold (I.left input.old) (λ script. FailsToLoad script × SaysFront (W.written output.old) (W.written output.new) (PlayedFront script)) }
     ensures before_keeper { IsErrOf result Stopped.Keeper → I.faults input.new ≡ I.faults input.old }
     ensures output { IsErrOf result Stopped.Output → Rose (W.faults output.old) (W.faults output.new) × (I.faults input.new ≡ I.faults input.old) }
+    ensures loaded { IsErrOf result Stopped.Output → OfTold (I.left input.old) (λ script. (FailsToLoad script → ⊥) × SaysFront (W.written output.old) (W.written output.new) (PlayedFront script)) }
 {
     match read_all(alloc, input, SCRIPT_LIMIT) {
         Ok(script) => play_script(rt, alloc, &script, output),
@@ -203,6 +205,8 @@ fn respond<I: Source, W: Sink, O: Outside, R: Wait>(
         TellsLoadToFail words.now script × SaysFront (W.written output.old) (W.written output.new) (OutcomeFront words.now script files))) }
     ensures before_keeper { IsErrOf result Stopped.Keeper → (I.faults input.new ≡ I.faults input.old) × (O.faults outside.new ≡ O.faults outside.old) }
     ensures output { IsErrOf result Stopped.Output → Rose (W.faults output.old) (W.faults output.new) × (I.faults input.new ≡ I.faults input.old) × (O.faults outside.new ≡ O.faults outside.old) }
+    ensures loaded { IsErrOf result Stopped.Output → OfTold (I.left input.old) (λ script. OfTold (O.files outside.old) (λ files.
+        (TellsLoadToFail words.now script → ⊥) × SaysFront (W.written output.old) (W.written output.new) (OutcomeFront words.now script files))) }
 {
     if is_play(words) {
         return play(rt, alloc, input, output);
@@ -230,7 +234,7 @@ pub fn run<I: Source, W: Sink, O: Outside, R: Wait>(
         SaysFront (W.written output.old) (W.written output.new) (OutcomeFront words.now script files))) }
 
     // A fault comes only where a count rose in this call, of the input, the files or the output, or where the script told the
-    // keeper's load to fail: the first in the order in which they come is the cause. A front is written, and then a front of
+    // keeper's load to fail: the first in the order in which they come is the cause, and the load comes before the output. A front is written, and then a front of
     // the one line that names it, also where that line's own write fails.
     ensures fault { result ≡ 3 → OfTold (I.left input.old) (λ script. OfTold (O.files outside.old) (λ files.
         Faulted (W.written output.old) (W.written output.new) (OutcomeFront words.now script files)

@@ -105,7 +105,7 @@ fn play_left<W: Sink, R: Wait>(
 /// # Errors
 ///
 /// [`PlayStop::Keeper`] comes exactly where the script's `keepfails` names the load, unless memory is wanting; nothing is
-/// written then. [`PlayStop::Output`] comes only where the output counted a fault.
+/// written then. [`PlayStop::Output`] comes only where the output counted a fault, and the load is not named.
 pub fn play_within<W: Sink, R: Wait>(
     rt: &R,
     alloc: Global,
@@ -122,6 +122,7 @@ pub fn play_within<W: Sink, R: Wait>(
     ensures front { OnErr result (SaysFront (W.written output.old) (W.written output.new) (OpenedFront limits (opening_of script.now))) }
     ensures keeper { IsErrOf result PlayStop.Keeper → names_load (opening_of script.now) ≡ true }
     ensures output { IsErrOf result PlayStop.Output → Rose (W.faults output.old) (W.faults output.new) }
+    ensures loaded { IsErrOf result PlayStop.Output → names_load (opening_of script.now) ≡ false }
 {
     let opening = open(alloc, script)?;
     let mut session = Session::start(rt, alloc, limits, opening.fails)?;

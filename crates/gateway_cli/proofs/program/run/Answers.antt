@@ -22,8 +22,8 @@ returns-in-Err-Output-clause-fault g c =
     let rose = c.in-Err-Output.ensures.output (cc c.in-Err-Output.field-0-is) in
     λ e. of_each (g.I.Source.left c.args.input.now) _ _
     (λ script. of_each (g.O.Outside.files c.args.outside.now) _ _
-    (λ files front. inr (inr (inl (rose.1, rose.2, (omega (arith, rose.0, c.say_fault-in-Err-Output.ensures.later), (g.W.Sink.written c.respond.new.output, front, c.say_fault-in-Err-Output.ensures.front)))))))
-    c.in-Err-Output.ensures.front
+    (λ files h. inr (inr (inl (rose.1, rose.2, h.0, (omega (arith, rose.0, c.say_fault-in-Err-Output.ensures.later), (g.W.Sink.written c.respond.new.output, h.1, c.say_fault-in-Err-Output.ensures.front)))))))
+    (c.in-Err-Output.ensures.loaded (cc c.in-Err-Output.field-0-is))
 
 pub returns-in-Err-Keeper-clause-fault : goal.returns-in-Err-Keeper-clause-fault
 returns-in-Err-Keeper-clause-fault g c =

@@ -1,0 +1,18 @@
+-- What a lane tells.
+use Rattle.std.specs.Prelude.{ℕ, List, Option, Bool}
+use Rattle.backend_core.specs.declared.request.WireRequest.{WireRequest}
+use Rattle.backend_core.specs.declared.outcome.Outcome.{Outcome}
+use Rattle.gate_ports.specs.Facts.{ComingFacts, ServedFacts}
+
+-- what a lane tells: its connections to come and given back, its backend's requests and outcomes, the readings of its clock and of
+-- its random words where all are equal; whether its port was shut, whether a connection is out, and how often a look failed
+pub record LaneTold : Type 0 where
+  pub coming : Option (List ComingFacts)
+  pub served : Option (List ServedFacts)
+  pub sent : Option (List WireRequest)
+  pub given : Option (List Outcome)
+  pub moment : Option ℕ
+  pub word : Option ℕ
+  pub closed : Bool
+  pub out : Bool
+  pub faults : ℕ

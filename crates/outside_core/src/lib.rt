@@ -1,0 +1,6 @@
+//! What the program asks of the machine around it.
+#![tactic(auto)]
+
+mod outside;
+
+pub use outside::{KeeperStart, Outside, OutsideFault};

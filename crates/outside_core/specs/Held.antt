@@ -1,7 +1,7 @@
 -- What an outside in memory holds, and what its calls change of it.
-use Rattle.std.specs.Prelude.{◌≡◌, ℕ, ◌+◌, ◌-◌, ◌≤◌, nat_lt, Bool, true, false, ◌||◌, List, [], ◌∷◌, ◌++◌, length, take, drop, map, Option, Some, None, Result, Ok, Err, ⊤, is_none, if◌then◌else◌, Vec}
-use Rattle.std.specs.List.{list_any}
+use Rattle.std.specs.Prelude.{◌≡◌, ℕ, ◌+◌, ◌-◌, nat_lt, Bool, true, false, ◌||◌, List, [], ◌∷◌, ◌++◌, length, take, drop, map, count_by, Option, Some, None, Result, Ok, Err, is_none, find, if◌then◌else◌, Vec}
 use Rattle.std.specs.Str.{bytes_eq}
+use Rattle.std.proofs.Common.{ap}
 use Rattle.gw_base.specs.Feed.{raised, is_listed}
 use Rattle.gw_base.specs.declared.readings.FixedClock.{FixedClock}
 use Rattle.gw_base.specs.declared.readings.SplitMix.{SplitMix}
@@ -9,7 +9,7 @@ use Rattle.backend_core.specs.declared.request.WireRequest.{WireRequest}
 use Rattle.backend_core.specs.declared.outcome.Outcome.{Outcome}
 use Rattle.gate_ports.specs.Docks.{PortFacts, coming_of, served_of}
 use Rattle.gate_ports.specs.declared.lane.Lane.{Lane}
-use Rattle.keeper_core.specs.Keeping.{KeeperFacts, MemFacts, told_by}
+use Rattle.keeper_core.specs.Keeping.{MemFacts, told_by}
 use Rattle.keeper_core.specs.Lists.{Lists, no_rows}
 use Rattle.outside_core.specs.Files.{Files, content_of}
 use Rattle.outside_core.specs.Told.{LaneTold}
@@ -40,7 +40,7 @@ pub record LentFacts (L : Type 0) : Type 0 where
 abbrev pub MemLane : Type 0 → Type 0 → Type 0
 MemLane B G = Lane PortFacts B FixedClock SplitMix G
 
--- the files, the stores, the lanes, the histories, which calls fail, how many were made, and how many of the faults there were
+-- the files, the stores, the lanes, the histories, which calls fail, how many were made, and how many of them failed
 pub record OutsideFacts (E L : Type 0) : Type 0 where
   pub files : Files
   pub stores : StoresFacts
@@ -48,7 +48,7 @@ pub record OutsideFacts (E L : Type 0) : Type 0 where
   pub sessions : List (List E)
   pub fails : List ℕ
   pub calls : ℕ
-  pub faults : ℕ
+  pub failures : ℕ
 
 -- the name and the tables of a store
 abbrev pub named : StoreFacts → List ℕ × Lists
@@ -58,10 +58,18 @@ named store = (store.name, store.lists)
 abbrev pub unused_keeper : Lists → List ℕ → MemFacts
 unused_keeper lists fails = record { lists = lists; staged = []; faults = 0; loads = 0; planned = record { fails = fails; calls = 0 } }
 
--- the keeper of the first store of this name; without one it has no rows, and no call of it fails
+-- the first store of this name
+abbrev pub found : List ℕ → List StoreFacts → Option StoreFacts
+found name stores = find (λ store. bytes_eq store.name name) stores
+
+-- a keeper of this store; without one it has no rows, and no call of it fails
+abbrev pub kept_by : Option StoreFacts → MemFacts
+kept_by None = unused_keeper no_rows []
+kept_by (Some store) = unused_keeper store.lists store.fails
+
+-- the keeper of the first store of this name
 abbrev pub keeper_of : List ℕ → List StoreFacts → MemFacts
-keeper_of name [] = unused_keeper no_rows []
-keeper_of name (store ∷ stores) = if bytes_eq store.name name then unused_keeper store.lists store.fails else keeper_of name stores
+keeper_of name stores = kept_by (found name stores)
 
 -- the stores with these tables in the first of this name, which without one is added at the end
 abbrev pub with_tables : List ℕ → Lists → List StoreFacts → List StoreFacts
@@ -69,10 +77,8 @@ with_tables name lists [] = record { name = name; lists = lists; fails = [] } �
 with_tables name lists (store ∷ stores) = if bytes_eq store.name name then record store { lists = lists } ∷ stores else store ∷ with_tables name lists stores
 
 -- of a lane in memory the port was not shut, has no connection out, and no look at it has failed
-pub record IsUnusedLane {B G : Type 0} (lane : MemLane B G) : Type 0 where
-  pub closed : lane.port.closed ≡ false
-  pub out : lane.port.out ≡ false
-  pub faults : lane.port.faults ≡ 0
+abbrev pub IsUnusedLane : {B G : Type 0} → MemLane B G → Type 0
+IsUnusedLane lane = (lane.port.closed ≡ false) × (lane.port.out ≡ false) × (lane.port.faults ≡ 0)
 
 -- what a lane in memory tells, whose backend tells this of itself
 abbrev pub lane_told : {B G : Type 0} → (B → Option (List WireRequest)) → (B → Option (List Outcome)) → MemLane B G → LaneTold
@@ -88,9 +94,21 @@ lane_told sent given lane = record {
   faults = lane.port.faults;
 }
 
--- a look at the port of one of these lanes has failed
-abbrev pub some_failed : {B G : Type 0} → List (MemLane B G) → Bool
-some_failed lanes = list_any (λ lane. nat_lt 0 lane.port.faults) lanes
+-- a load of the keeper has failed
+abbrev pub has_failed_load : MemFacts → Bool
+has_failed_load keeper = nat_lt 0 keeper.loads
+
+-- a look at the lane's port has failed
+abbrev pub has_failed_look : {B G : Type 0} → MemLane B G → Bool
+has_failed_look lane = nat_lt 0 lane.port.faults
+
+-- the calls that failed, and of what was given back the keepers and the lanes that had failed
+abbrev pub faults_of : {E B G : Type 0} → OutsideFacts E (MemLane B G) → ℕ
+faults_of facts = facts.failures + count_by has_failed_load facts.stores.back + count_by has_failed_look facts.lanes.returned
+
+-- all but the histories
+abbrev pub beside_of : {E L : Type 0} → OutsideFacts E L → OutsideFacts E L
+beside_of facts = record facts { sessions = [] }
 
 -- after a call that did not fail
 abbrev pub asked : {E L : Type 0} → OutsideFacts E L → OutsideFacts E L
@@ -98,7 +116,7 @@ asked facts = record facts { calls = raised facts.calls }
 
 -- after a call that failed
 abbrev pub failed : {E L : Type 0} → OutsideFacts E L → OutsideFacts E L
-failed facts = record facts { calls = raised facts.calls; faults = raised facts.faults }
+failed facts = record facts { calls = raised facts.calls; failures = raised facts.failures }
 
 -- the next call fails, since its number is listed
 abbrev pub fails_next : {E L : Type 0} → OutsideFacts E L → Bool
@@ -128,10 +146,6 @@ first_lent n facts = record facts { waiting = drop n facts.waiting; out = facts.
 abbrev pub all_returned : {L : Type 0} → List L → LentFacts L → LentFacts L
 all_returned items facts = record facts { returned = facts.returned ++ items; out = facts.out - length items }
 
--- a count of faults after one more, where this is so
-abbrev pub raised_where : Bool → ℕ → ℕ
-raised_where so count = if so then raised count else count
-
 -- what a call for a keeper answers, and what it changes
 abbrev pub LendsKeeper : {E L : Type 0} → List ℕ → Result MemFacts KeeperStart → OutsideFacts E L → OutsideFacts E L → Type 0
 LendsKeeper name (Ok keeper) old new = (fails_next old ≡ false) × (keeper ≡ keeper_of name old.stores.stores) × (new ≡ asked (record old { stores = keeper_lent name old.stores }))
@@ -144,3 +158,19 @@ abbrev pub LendsLanes : {E L A : Type 0} → ℕ → Result (Vec L A) OutsideFau
 LendsLanes n (Ok lanes) old new = (fails_lanes old n ≡ false) × (lanes.items ≡ take n old.lanes.waiting) × (new ≡ asked (record old { lanes = first_lent n old.lanes }))
 LendsLanes n (Err Failed) old new = (fails_lanes old n ≡ true) × (new ≡ failed old)
 LendsLanes n (Err LendMemory) old new = (fails_lanes old n ≡ false) × (new ≡ old)
+
+-- two outsides that differ in their histories alone tell the same of all else
+pub told_alike : {E B G : Type 0} (sent : B → Option (List WireRequest)) (given : B → Option (List Outcome)) (a b : OutsideFacts E (MemLane B G)) → beside_of a ≡ beside_of b
+    → (Some a.files ≡ Some b.files) × (Some (map named a.stores.stores) ≡ Some (map named b.stores.stores)) × (Some (map (lane_told sent given) a.lanes.waiting) ≡ Some (map (lane_told sent given) b.lanes.waiting))
+    × (Some (map told_by a.stores.back) ≡ Some (map told_by b.stores.back)) × (Some (map (lane_told sent given) a.lanes.returned) ≡ Some (map (lane_told sent given) b.lanes.returned))
+    × (a.stores.out ≡ b.stores.out) × (a.lanes.out ≡ b.lanes.out) × (faults_of a ≡ faults_of b)
+told_alike sent given a b same = (
+  ap (λ o. Some o.files) same,
+  ap (λ o. Some (map named o.stores.stores)) same,
+  ap (λ o. Some (map (lane_told sent given) o.lanes.waiting)) same,
+  ap (λ o. Some (map told_by o.stores.back)) same,
+  ap (λ o. Some (map (lane_told sent given) o.lanes.returned)) same,
+  ap (λ o. o.stores.out) same,
+  ap (λ o. o.lanes.out) same,
+  ap faults_of same,
+)

@@ -21,6 +21,9 @@ use std::marker::Model;
 /// An outside in memory: files and stores by name, the first of a name standing for it, and lanes. Of the calls of `file`,
 /// `keeper` and `lanes`, counted together from 0, those of the given numbers fail; so do a call for a file that is not there
 /// and one for more lanes than wait, and no others. A call that wants memory changes nothing and is not counted.
+///
+/// Its faults are the calls that failed and, of what was given back, the keepers whose load failed and the lanes at whose
+/// port a look failed.
 #[derive(Drop)]
 pub struct MemOutside<E, B, G> {
     files: Vec<(Text, Bytes)>,

@@ -1,0 +1,361 @@
+#!/usr/bin/env python3
+"""Tests of the running server: starts the built program on a free port of the loopback, talks to it over sockets, and ends it.
+
+Usage: tests/live.py [PROGRAM]; the program is built by `rt run` in crates/gateway.
+
+Prints `ok NAME` or `FAILED NAME: why` for each test, and last `N passed, N failed`. Its status is 0 only where none failed. Each wait
+has a limit of its own, so it ends whatever the program does. The store is empty, so every call is answered 403; what is expected is
+said to the byte by docs/HTTP.md and docs/SCRIPT.md. Nothing is sent that the server would leave unread where it closes a connection:
+the system would then reset it, and the answer might be lost."""
+import os, queue, signal, socket, subprocess, sys, tempfile, threading, time
+
+TOP = os.path.dirname(os.path.dirname(os.path.abspath(__file__)))
+LANES = 4
+WAIT = 60  # seconds, of each wait
+SILENCE = 30  # seconds that the server gives a client for a message
+
+CALL = b"POST /hello/v1 HTTP/1.1\r\nhost: localhost\r\ncontent-length: 3\r\n\r\nAnn"
+LAST = b"POST /hello/v1 HTTP/1.1\r\nhost: localhost\r\nconnection: close\r\ncontent-length: 3\r\n\r\nAnn"
+HEAD = b"HEAD /hello/v1 HTTP/1.1\r\nhost: localhost\r\n\r\n"
+
+
+def own_answer(status, cause, message, closes=False, head_only=False):
+    """The bytes of one of the gateway's own answers."""
+    body = b'{"message":"%s"}' % message
+    head = b"HTTP/1.1 %s\r\ncontent-type: application/json\r\nx-gateway-cause: %s\r\n" % (status, cause)
+    close = b"connection: close\r\n" if closes else b""
+    return head + close + b"content-length: %d\r\n\r\n" % len(body) + (b"" if head_only else body)
+
+
+def edge_answer(status):
+    """The bytes of an answer to what is no message."""
+    return b"HTTP/1.1 %s\r\nconnection: close\r\ncontent-length: 0\r\n\r\n" % status
+
+
+def no_stage(**kind):
+    return own_answer(b"403 Forbidden", b"UNKNOWN_STAGE", b"Unknown stage", **kind)
+
+
+class Wrong(Exception):
+    """Something else came than what was expected."""
+
+
+def expect(what, got, wanted):
+    if got == wanted:
+        return
+    if isinstance(wanted, bytes):
+        same = len(os.path.commonprefix([got, wanted]))
+        raise Wrong(f"{what}: the same for {same} bytes, then {got[same : same + 100]} in place of {wanted[same : same + 100]}")
+    raise Wrong(f"{what}: {got} in place of {wanted}")
+
+
+class Client:
+    """A connection to the server."""
+
+    def __init__(self, port):
+        self.socket = socket.create_connection(("127.0.0.1", port), timeout=WAIT)
+        self.socket.setsockopt(socket.IPPROTO_TCP, socket.TCP_NODELAY, 1)
+
+    def __enter__(self):
+        return self
+
+    def __exit__(self, *_):
+        self.socket.close()
+
+    def send(self, piece):
+        self.socket.settimeout(WAIT)
+        self.socket.sendall(piece)
+
+    def read(self, most):
+        """At most so many bytes, fewer only where the server closed the connection."""
+        got, end = b"", time.monotonic() + WAIT
+        while len(got) < most:
+            left = end - time.monotonic()
+            if left <= 0:
+                raise Wrong(f"no more came in {WAIT} seconds behind {len(got)} bytes, which end in {got[-100:]}")
+            self.socket.settimeout(left)
+            try:
+                piece = self.socket.recv(min(65536, most - len(got)))
+            except socket.timeout:
+                continue
+            if not piece:
+                break
+            got += piece
+        return got
+
+    def has_answer(self, what, wanted):
+        """This answer comes, and the connection may go on."""
+        expect(what, self.read(len(wanted)), wanted)
+
+    def has_last(self, what, wanted):
+        """This comes, and nothing behind it: the server closes the connection."""
+        expect(what, self.read(len(wanted) + 1), wanted)
+
+    def calls(self, what, request, wanted):
+        self.send(request)
+        self.has_answer(what, wanted)
+
+
+class Server:
+    """The program, listening, in a folder of its own."""
+
+    def __init__(self, program, room):
+        self.program, self.room, self.process, self.port = program, room, None, None
+
+    def run(self, *words):
+        """The program with these words, which ends by itself: its status, and what it prints."""
+        ended = subprocess.run([self.program, *words], cwd=self.room, stdin=subprocess.DEVNULL, capture_output=True, timeout=WAIT)
+        return ended.returncode, ended.stdout
+
+    def start(self):
+        """On a port that was free. Where another program took it in between, on another one."""
+        for _ in range(5):
+            with socket.socket() as probe:
+                probe.bind(("127.0.0.1", 0))
+                self.port = probe.getsockname()[1]
+            words = [self.program, "serve", "memory", str(self.port), str(LANES)]
+            with open(f"{self.room}/output", "wb") as output:
+                self.process = subprocess.Popen(words, cwd=self.room, stdin=subprocess.DEVNULL, stdout=output, stderr=subprocess.PIPE)
+            line = self.first_line()
+            if line == f"listening on 127.0.0.1:{self.port} with {LANES} lanes\n".encode():
+                return
+            told = self.end()
+            if told != b"fault port\n":
+                raise Wrong(f"the first line of standard error is {line}, and standard output has {told}")
+        raise Wrong("no free port in five tries")
+
+    def first_line(self):
+        """The first line of its standard error, which is read on to its end, so that the program never waits for a reader."""
+        lines, process = queue.Queue(), self.process
+
+        def read():
+            for line in process.stderr:
+                lines.put(line)
+            lines.put(b"")
+
+        threading.Thread(target=read, daemon=True).start()
+        try:
+            return lines.get(timeout=WAIT)
+        except queue.Empty:
+            raise Wrong(f"no line on standard error in {WAIT} seconds")
+
+    def end(self):
+        """Ends it, and gives what it printed."""
+        if self.process is None:
+            return b""
+        self.process.kill()
+        self.process.wait(WAIT)
+        self.process = None
+        with open(f"{self.room}/output", "rb") as output:
+            return output.read()
+
+
+def at_once(count, work):
+    """Does the work in so many threads, and tells the first that went wrong."""
+    faults, begin = queue.Queue(), threading.Barrier(count)
+
+    def one(number):
+        try:
+            begin.wait(WAIT)
+            work(number)
+        except Exception as fault:
+            faults.put(f"client {number}: {fault}")
+
+    threads = [threading.Thread(target=one, args=(number,), daemon=True) for number in range(count)]
+    for thread in threads:
+        thread.start()
+    end = time.monotonic() + 4 * WAIT
+    for thread in threads:
+        thread.join(max(0.0, end - time.monotonic()))
+    if any(thread.is_alive() for thread in threads):
+        raise Wrong(f"a client was not done in {4 * WAIT} seconds")
+    if not faults.empty():
+        raise Wrong(faults.get())
+
+
+# The tests.
+
+
+def eight_clients_are_answered_over_kept_connections(server):
+    def work(_):
+        with Client(server.port) as client:
+            for turn in range(20):
+                client.calls(f"call {turn}", CALL, no_stage())
+            client.send(LAST)
+            client.has_last("the last call", no_stage(closes=True))
+
+    at_once(8, work)
+
+
+def requests_of_one_send_are_answered_in_order(server):
+    def work(number):
+        heads = [(number + turn) % 3 == 0 for turn in range(30)]
+        with Client(server.port) as client:
+            client.send(b"".join(HEAD if head else CALL for head in heads) + LAST)
+            client.has_last("the answers", b"".join(no_stage(head_only=head) for head in heads) + no_stage(closes=True))
+
+    at_once(8, work)
+
+
+def a_head_in_single_bytes_is_a_head(server):
+    with Client(server.port) as client:
+        for place in range(len(LAST)):
+            client.send(LAST[place : place + 1])
+        client.has_last("the answer", no_stage(closes=True))
+
+
+def a_broken_head_is_answered_400(server):
+    for broken in (b"GET\r\n", b"GET /hello/v1 HTTP/1.1\r\n\r\n", b"GET /hello/v1 HTTP/1.1\r\nhost : localhost\r\n"):
+        with Client(server.port) as client:
+            client.send(broken)
+            client.has_last(f"behind {broken}", edge_answer(b"400 Bad Request"))
+
+
+def a_broken_head_behind_a_call_is_answered_400(server):
+    with Client(server.port) as client:
+        client.send(CALL + b"GET\r\n")
+        client.has_last("the answers", no_stage() + edge_answer(b"400 Bad Request"))
+
+
+def a_head_that_is_too_long_is_answered_431(server):
+    front = b"GET /hello/v1 HTTP/1.1\r\nhost: localhost\r\nx-long: "
+    with Client(server.port) as client:
+        client.send(front + b"a" * (10240 - len(front)))  # any head that begins so is longer; more would be left unread
+        client.has_last("the answer", edge_answer(b"431 Request Header Fields Too Large"))
+
+
+def a_head_request_is_answered_with_a_head_alone(server):
+    with Client(server.port) as client:
+        client.calls("HEAD", HEAD, no_stage(head_only=True))
+        client.send(LAST)
+        client.has_last("the call behind it", no_stage(closes=True))
+
+
+def version_1_0_closes(server):
+    with Client(server.port) as client:
+        client.send(b"GET /hello/v1 HTTP/1.0\r\n\r\n")
+        client.has_last("the answer", no_stage(closes=True))
+
+
+def a_body_in_chunks_is_taken_whole(server):
+    chunked = b"POST /hello/v1 HTTP/1.1\r\nhost: localhost\r\ntransfer-encoding: chunked\r\n\r\n"
+    with Client(server.port) as client:
+        client.calls("the call", chunked + b"3;name=value\r\nAnn\r\nA\r\n0123456789\r\n0\r\nx-trailer: dropped\r\n\r\n", no_stage())
+        client.send(LAST)
+        client.has_last("the call behind it", no_stage(closes=True))
+
+
+def a_broken_chunk_is_answered_400(server):
+    with Client(server.port) as client:
+        client.send(b"POST /hello/v1 HTTP/1.1\r\nhost: localhost\r\ntransfer-encoding: chunked\r\n\r\ng\r\n")
+        client.has_last("the answer", edge_answer(b"400 Bad Request"))
+
+
+def a_body_that_is_too_large_is_answered_413(server):
+    with Client(server.port) as client:
+        client.send(b"POST /hello/v1 HTTP/1.1\r\nhost: localhost\r\ncontent-length: 10485761\r\n\r\n")
+        client.has_last("the answer", own_answer(b"413 Payload Too Large", b"REQUEST_TOO_LARGE", b"Request Entity Too Large", closes=True))
+
+
+def others_are_served_beside(server, silent):
+    """Whether calls on further connections are answered well before the server gives up who says nothing; and then these are still heard."""
+    begun = time.monotonic()
+    for turn in range(8):
+        with Client(server.port) as client:
+            client.send(LAST)
+            client.has_last(f"call {turn} beside clients that say nothing", no_stage(closes=True))
+    if time.monotonic() - begun > SILENCE / 2:
+        return False
+    for client in silent:
+        client.send(LAST)
+        client.has_last("a client that had said nothing", no_stage(closes=True))
+    return True
+
+
+def clients_that_say_nothing_keep_their_own_lane_alone(server):
+    """All lanes but one wait for a client that says nothing. Connections are accepted in their order, so once a later one is answered each
+    of these has its lane. A machine that is slow for a while gets three tries."""
+    for _ in range(3):
+        silent = [Client(server.port) for _ in range(LANES - 1)]
+        try:
+            if others_are_served_beside(server, silent):
+                return
+        finally:
+            for client in silent:
+                client.socket.close()
+    raise Wrong(f"further calls took more than {SILENCE // 2} seconds, three times")
+
+
+def a_second_program_at_the_port_ends_with_3(server):
+    expect("status and output", server.run("serve", "memory", str(server.port), str(LANES)), (3, b"fault port\n"))
+    with Client(server.port) as client:
+        client.send(LAST)
+        client.has_last("the first program's answer", no_stage(closes=True))
+
+
+def words_that_are_no_command_end_with_2(server):
+    for words in ((), ("bogus",), ("serve",), ("serve", "memory", "1"), ("serve", "memory", "port", "4")):
+        expect(f"status and output of {words}", server.run(*words), (2, b"usage\n"))
+
+
+def the_program_still_runs(server):
+    expect("status", server.process.poll(), None)
+
+
+TESTS = [
+    eight_clients_are_answered_over_kept_connections,
+    requests_of_one_send_are_answered_in_order,
+    a_head_in_single_bytes_is_a_head,
+    a_broken_head_is_answered_400,
+    a_broken_head_behind_a_call_is_answered_400,
+    a_head_that_is_too_long_is_answered_431,
+    a_head_request_is_answered_with_a_head_alone,
+    version_1_0_closes,
+    a_body_in_chunks_is_taken_whole,
+    a_broken_chunk_is_answered_400,
+    a_body_that_is_too_large_is_answered_413,
+    clients_that_say_nothing_keep_their_own_lane_alone,
+    a_second_program_at_the_port_ends_with_3,
+    words_that_are_no_command_end_with_2,
+    the_program_still_runs,
+]
+
+
+def try_one(name, test):
+    """Whether it passed."""
+    try:
+        test()
+    except Exception as fault:
+        print(f"FAILED {name}: {type(fault).__name__}: {fault}", flush=True)
+        return False
+    print(f"ok {name}", flush=True)
+    return True
+
+
+def main():
+    program = os.path.abspath(sys.argv[1] if len(sys.argv) > 1 else f"{TOP}/crates/gateway/out/gateway")
+    passed = failed = 0
+    with tempfile.TemporaryDirectory() as room:
+        server = Server(program, room)
+        try:
+            if not try_one("the_program_listens", server.start):
+                failed = 1
+            else:
+                passed = 1
+                for test in TESTS:
+                    if try_one(test.__name__, lambda: test(server)):
+                        passed += 1
+                    else:
+                        failed += 1
+        except KeyboardInterrupt:
+            print("FAILED: ended from outside")
+            failed += 1
+        finally:
+            server.end()
+    print(f"{passed} passed, {failed} failed")
+    return 1 if failed else 0
+
+
+if __name__ == "__main__":
+    signal.signal(signal.SIGTERM, signal.default_int_handler)
+    sys.exit(main())

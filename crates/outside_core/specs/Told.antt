@@ -16,3 +16,8 @@ pub record LaneTold : Type 0 where
   pub closed : Bool
   pub out : Bool
   pub faults : ℕ
+
+-- the same, by what its port, its backend, its clock and its words tell
+abbrev pub told_of : Option (List ComingFacts) → Option (List ServedFacts) → Option (List WireRequest) → Option (List Outcome) → Option ℕ → Option ℕ → Bool → Bool → ℕ → LaneTold
+told_of coming served sent given moment word closed out faults =
+    record { coming = coming; served = served; sent = sent; given = given; moment = moment; word = word; closed = closed; out = out; faults = faults }

@@ -1,0 +1,3 @@
+mod Seated
+mod Histories
+pub mod Sent

@@ -1,7 +1,6 @@
 -- How the ends of lanes end a session, and what is printed of it.
-use Rattle.std.specs.Prelude.{ℕ, Bool, true, false, not, ◌&&◌, List, [], ◌∷◌, ◌++◌, codes, Option, Some, None}
+use Rattle.std.specs.Prelude.{ℕ, Bool, true, false, List, [], ◌∷◌, ◌++◌, codes, Option, Some, None}
 use Rattle.std.specs.Fmt.{decimal}
-use Rattle.std.specs.List.{list_any}
 use Rattle.gate_walk.specs.declared.ended.LaneEnd.{LaneEnd}
 use Rattle.gate_walk.specs.declared.ended.LaneEnd.TheVariants.{Ended, Closing, PortFault, Full, Memory}
 use Rattle.gate_walk.specs.declared.ended.SessionFull.{SessionFull}

@@ -1,5 +1,5 @@
 -- What holding a session leaves of an outside.
-use Rattle.std.specs.Prelude.{◌≡◌, ℕ, ◌≤◌, true, List, Option, drop}
+use Rattle.std.specs.Prelude.{◌≡◌, ℕ, ◌≤◌, true, List, drop}
 use Rattle.std.specs.List.{list_any}
 use Rattle.backend_core.specs.Exchanges.{gained}
 use Rattle.book_core.specs.Books.{Keeps}

@@ -1,5 +1,5 @@
 -- What serving a store over lanes comes to.
-use Rattle.std.specs.Prelude.{◌≡◌, ◌⊎◌, ℕ, Bool, true, false, List, ◌++◌, length, Option, Some, None, IfSome}
+use Rattle.std.specs.Prelude.{◌≡◌, ◌⊎◌, ℕ, true, false, List, ◌++◌, length, Option, Some, None, IfSome}
 use Rattle.std.specs.List.{list_any}
 use Rattle.std.specs.Io.KnownBytes.{Appends}
 use Rattle.backend_core.specs.Exchanges.{gained}
@@ -57,15 +57,15 @@ abbrev pub IsBadStore : List ℕ → Shelves → Shelves → Table → ℕ → T
 IsBadStore name old new table row =
     Rose old.faults new.faults
     ⊎ ((before : KeeperFacts) × (after : KeeperFacts) × IsUnused before × StartFails before (BadStore table row) after × (new.kept_back ≡ gained old.kept_back after)
-        × IfSome old.stores (λ told. bad_row (store_of name told) ≡ Some (table, row)))
+    × IfSome old.stores (λ told. bad_row (store_of name told) ≡ Some (table, row)))
 
 -- Why serving ended with this status, and what was written: the session's line with what its lanes' ends print, or the bad row of a store
 -- that no session was held over.
 abbrev pub Ends : Limits → List ℕ → ℕ → Shelves → Shelves → Option (List ℕ) → Option (List ℕ) → ℕ → Type 0
 Ends limits name number old new written now status =
     ((ends : List LaneEnd) × (history : List Entry) × Held limits name number old new ends history
-        × (list_any wants_memory ends ≡ false) × (list_any has_port_fault ends ≡ false)
-        × (status ≡ status_of (first_full ends)) × Appends written now (session_line history ++ last_line (first_full ends)))
+    × (list_any wants_memory ends ≡ false) × (list_any has_port_fault ends ≡ false)
+    × (status ≡ status_of (first_full ends)) × Appends written now (session_line history ++ last_line (first_full ends)))
     ⊎ ((table : Table) × (row : ℕ) × IsBadStore name old new table row × NotHeld old new × (status ≡ 1) × Appends written now (bad_store_line table row))
 
 -- A look failed, of which an outside's count tells: none for lanes at all, and then nothing was written; or one on a lane, behind whose
@@ -75,11 +75,11 @@ PortFails limits name number old new written now =
     Rose old.faults new.faults
     × ((NotHeld old new × (now ≡ written))
     ⊎ ((ends : List LaneEnd) × (history : List Entry) × Held limits name number old new ends history
-        × (list_any wants_memory ends ≡ false) × (list_any has_port_fault ends ≡ true) × AppendsFront written now (session_line history)))
+    × (list_any wants_memory ends ≡ false) × (list_any has_port_fault ends ≡ true) × AppendsFront written now (session_line history)))
 
 -- A write failed: of the lines of a session, or of that of a bad store.
 abbrev pub OutputFails : Limits → List ℕ → ℕ → Shelves → Shelves → Option (List ℕ) → Option (List ℕ) → Type 0
 OutputFails limits name number old new written now =
     ((ends : List LaneEnd) × (history : List Entry) × Held limits name number old new ends history
-        × (list_any wants_memory ends ≡ false) × (list_any has_port_fault ends ≡ false) × AppendsFront written now (session_line history ++ last_line (first_full ends)))
+    × (list_any wants_memory ends ≡ false) × (list_any has_port_fault ends ≡ false) × AppendsFront written now (session_line history ++ last_line (first_full ends)))
     ⊎ ((table : Table) × (row : ℕ) × IsBadStore name old new table row × NotHeld old new × AppendsFront written now (bad_store_line table row))

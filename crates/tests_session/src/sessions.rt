@@ -12,8 +12,10 @@ const HI_ANN: &'static [u8] =
 fn served<R: Threads + Wait + Sync>(rt: &R, alloc: Global) -> Result<MemOut, Fail> {
     let mut outside = outside(alloc, &PLAIN)?;
     let (status, _) = told(rt, alloc, &["serve", "a", "8080", "2"], &mut outside, &[])?;
-    assert_eq!(rt; status, 0);
-    Ok(outside)
+    match status {
+        0 => Ok(outside),
+        _ => Err(Fail::new("the session was not served")),
+    }
 }
 
 #[test]
@@ -32,10 +34,8 @@ fn the_history_is_handed_on(rt: HostRuntime) -> Result<(), Fail> {
     let outside = served(&rt, rt.alloc())?;
     assert_eq!(rt; outside.sessions().len(), 1);
     for seat in [1, 2] {
-        let entries = outside.sessions()[0]
-            .iter()
-            .filter(|entry| entry.seat == seat);
-        assert_eq!(rt; entries.count(), 2);
+        let entries = outside.sessions()[0].as_slice().iter();
+        assert_eq!(rt; entries.filter(|entry| entry.seat == seat).count(), 2);
     }
     Ok(())
 }

@@ -1,10 +1,12 @@
 //! The gateway's program.
 //!
-//! `main` makes the real input and output and the files of the machine, and hands them, with the words of the command
-//! line, to [`gateway_cli::run`], which does all that the program does. Its exit status is what `run` answers.
+//! `main` makes the real input and output and the machine's files, sockets and stores, and hands them, with the words of the
+//! command line, to [`gateway_cli::run`], which does all that the program does. Its exit status is what `run` answers. On
+//! standard error it says where it listens.
 #![tactic(auto)]
 
-use gateway_cli::{DiskOutside, ReaderSource, WriterSink, run};
+use gateway_cli::run;
+use gateway_machine::{MachineOutside, ReaderSource, WriterSink};
 use gw_base::Text;
 use std::alloc::Global;
 use std::env;
@@ -30,6 +32,6 @@ fn main(rt: HostRuntime) -> ExitCode {
     let words = words_of(&rt, alloc);
     let mut input = ReaderSource::new(rt.stdin());
     let mut output = WriterSink::new(rt.stdout());
-    let mut outside = DiskOutside::new(&rt);
+    let mut outside = MachineOutside::new(&rt, alloc, rt.stderr());
     ExitCode::from(run(&rt, alloc, &words, &mut input, &mut output, &mut outside))
 }

@@ -1,11 +1,12 @@
 -- The files that were asked for, and what is rendered of them.
-use Rattle.std.proofs.Common.{◌≡◌, ℕ, ◌<◌, ◌≤◌, ◌∙◌, Bool, true, false, nat_lt, nat_le, List, [], ◌∷◌, length, cond, Option, Some, None, IfSome, IsSomeAnd, refl, sym, ap, arith}
+use Rattle.std.proofs.Common.{◌≡◌, ℕ, ◌<◌, ◌≤◌, ◌∙◌, Bool, true, false, nat_lt, List, [], ◌∷◌, length, cond, Option, Some, None, IfSome, IsSomeAnd, refl, sym, ap, arith}
 use Rattle.std.proofs.lemmas.Grind.{common_steps}
 use borrow.Author.Tests.{lt-ltb}
 use Rattle.std.specs.Str.{bytes_eq}
 use Rattle.std.proofs.lemmas.Slice.Eq.{bytes_eq-Decides}
 use Rattle.gateway_cli.specs.Check.{check_of, checked_file, checked_within, document_limit}
-use Rattle.gateway_cli.specs.Files.{Files, content_of, Holds, within}
+use Rattle.outside_core.specs.Files.{Files, content_of}
+use Rattle.gateway_cli.specs.Files.{Holds, within}
 use Rattle.gateway_cli.specs.Render.{judged, rendered, rendered_files, render_of, body_limit, template_limit}
 use Rattle.gateway_cli.specs.Top.{OfTold}
 use Rattle.gateway_cli.proofs.Inputs.{longer}

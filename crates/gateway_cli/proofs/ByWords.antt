@@ -1,13 +1,13 @@
 -- What is printed of the words, by their command.
-use Rattle.std.proofs.Common.{◌≡◌, ℕ, Bool, true, false, List, [], Option, Some, None, refl, sym, ◌∙◌, subst, Result, IfOk, OnErr}
+use Rattle.std.proofs.Common.{◌≡◌, ℕ, Bool, true, false, List, [], Option, Some, None, refl, sym, subst, Result, IfOk, OnErr}
 use Rattle.gateway_cli.specs.Check.{check_of}
-use Rattle.gateway_cli.specs.Commands.{is_play, render_names, check_name, check_or_usage, named_output, over_files, usage, OutcomeBy, Outcome, OutcomeFrontBy, OutcomeFront}
-use Rattle.gateway_cli.specs.Files.{Files}
+use Rattle.gateway_cli.specs.Commands.{is_play, render_names, check_name, named_output, over_files, usage, OutcomeBy, Outcome, OutcomeFrontBy, OutcomeFront}
+use Rattle.outside_core.specs.Files.{Files}
 use Rattle.play_script.specs.Play.{Output, Played, PlayedFront, IsFront, SaysFront}
 use Rattle.gateway_cli.specs.Render.{render_of}
 use Rattle.gw_base.specs.Whole.{AppendsFront}
 use Rattle.gateway_cli.specs.Top.{OfTold, Answered, Says}
-use Rattle.gateway_cli.proofs.Inputs.{of_any, of_each, if_ok_map, on_err_map, on_err_of}
+use Rattle.gateway_cli.proofs.Inputs.{of_any, of_each, if_ok_map, on_err_of}
 use Rattle.play_script.proofs.Playing.{says_front}
 
 pub played_is : (words : List (List ℕ)) (script : List ℕ) (files : Files) (output : Output) → is_play words ≡ true → Played script output → Outcome words script files output

@@ -1,5 +1,5 @@
 -- What holds of what the outside tells, and of some value where it tells none.
-use Rattle.std.proofs.Common.{◌≡◌, ℕ, zero, suc, ◌<◌, List, [], ◌∷◌, length, cond, Option, Some, None, IfSome, IfOk, OnErr, Result, Ok, Err, refl, sym, ap, subst, arith}
+use Rattle.std.proofs.Common.{◌≡◌, ℕ, zero, suc, ◌<◌, List, [], ◌∷◌, length, Option, Some, None, IfSome, IfOk, OnErr, Result, Ok, Err, refl, subst, arith}
 use Rattle.gateway_cli.specs.Top.{OfTold}
 pub use Rattle.play_script.proofs.Playing.{on_err_of}
 
@@ -48,3 +48,7 @@ on_err_is r P e is h = subst (λ s. OnErr s P) is h
 -- what holds of a value that is the one that is told
 pub of_same : {A : Type 0} (outside : Option A) (x y : A) (P : A → Type 0) → x ≡ y → IfSome outside (λ told. y ≡ told) → P x → OfTold outside P
 of_same outside x y P same told p = (y, told, subst P same p)
+
+-- what holds of a value that is there
+pub if_some_of : {A : Type 0} (found : Option A) (x : A) (P : A → Type 0) → Some x ≡ found → P x → IfSome found P
+if_some_of found x P is holds = subst (λ o. IfSome o P) is holds

@@ -1,18 +1,16 @@
 -- The words, the input and the files come to one outcome, and what is written where the program is cut short is a front of it.
-use Rattle.std.proofs.Common.{◌≡◌, ◌≢◌, ◌⊎◌, inl, inr, ℕ, ◌+◌, Bool, true, false, List, [], ◌∷◌, ◌++◌, Option, Some, None, Result, Ok, Err, refl, sym, ap, ◌∙◌, subst, append_assoc, append-nil}
+use Rattle.std.proofs.Common.{◌≡◌, inl, inr, ℕ, ◌+◌, Bool, true, false, List, [], ◌∷◌, ◌++◌, Option, Some, None, Result, Ok, Err, refl, sym, ap, ◌∙◌, subst, append_assoc}
 use Rattle.book_rules.specs.declared.events.Entry.{Entry}
 use Rattle.book_rules.specs.History.{Base}
 use Rattle.call_facts.specs.declared.request.WireReply.{WireReply}
 use Rattle.http_edge.proofs.ReplyUnique.{reply_unique}
-use Rattle.http_edge.specs.Replies.{IsReply}
 use Rattle.http_framing.specs.declared.fault.EdgeFault.{EdgeFault}
 use Rattle.play_connection.proofs.Once.{connects_once}
-use Rattle.play_connection.specs.Talks.{Said}
 use Rattle.play_script.specs.Calls.{IsWhole, IsOther, IsNoWhole, IsOutcome, IsNoOutcome, AreOutcomes, BreaksOutcomes}
 use Rattle.play_script.specs.Coding.{is_passed_over}
 use Rattle.gateway_cli.specs.Commands.{is_play, OutcomeBy, Outcome, OutcomeFrontBy, OutcomeFront, HasOneOutcome, FrontsAreOfTheOutcome}
-use Rattle.gateway_cli.specs.Files.{Files}
-use Rattle.play_script.specs.Play.{Turn, Output, before, talked, IsTalk, IsCall, Does, DoesOrNot, PassesOrDoes, IsTurn, GoesOn, Plays, IsFront, GoesOnInFront, PlaysFront, PlayedBy, Played, OpenedFrontBy, PlayedFrontBy, PlayedFront, opening_of, session_limits, script_limit}
+use Rattle.outside_core.specs.Files.{Files}
+use Rattle.play_script.specs.Play.{Turn, Output, before, talked, IsTalk, Does, DoesOrNot, PassesOrDoes, IsTurn, GoesOn, Plays, IsFront, GoesOnInFront, PlaysFront, PlayedBy, Played, OpenedFrontBy, PlayedFrontBy, PlayedFront, opening_of, session_limits}
 use Rattle.play_connection.specs.Sessions.{base_of}
 use Rattle.play_script.specs.Records.{record_in}
 use Rattle.play_script.specs.declared.records.LineFault.{LineFault}

@@ -1,5 +1,5 @@
 -- What the command `check` prints of its file.
-use Rattle.std.specs.Prelude.{ℕ, List, [], ◌∷◌, codes, length, Option, Some, None, Result, Ok, Err}
+use Rattle.std.specs.Prelude.{ℕ, List, [], ◌∷◌, codes, length, Option, Some, None, Ok, Err}
 use Rattle.std.specs.Fmt.{decimal}
 use Rattle.std.specs.List.{concat}
 use Rattle.api_model.specs.Definition.{document, stated}
@@ -7,7 +7,8 @@ use Rattle.api_model.specs.Document.{Parts}
 use Rattle.api_parts.specs.Printed.{printed}
 use Rattle.api_parts.specs.Reading.{Read}
 use Rattle.api_parts.specs.declared.fault.ApiFault.{ApiFault}
-use Rattle.gateway_cli.specs.Files.{Files, content_of, within}
+use Rattle.outside_core.specs.Files.{Files, content_of}
+use Rattle.gateway_cli.specs.Files.{within}
 use Rattle.play_script.specs.Play.{Output, too_long}
 use Rattle.play_script.specs.Printed.{line_feed}
 use Rattle.record_fields.specs.Writing.{coded, field}

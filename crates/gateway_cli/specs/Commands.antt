@@ -1,12 +1,13 @@
 -- What the words ask for.
-use Rattle.std.specs.Prelude.{◌≡◌, ℕ, ◌==◌, Bool, true, false, not, ◌&&◌, ◌||◌, List, [], ◌∷◌, ◌++◌, codes, Option, Some, None, if◌then◌else◌}
-use Rattle.std.specs.Option.{is_some}
+use Rattle.std.specs.Prelude.{◌≡◌, ℕ, ◌==◌, nat_le, Bool, true, false, not, ◌&&◌, ◌||◌, List, [], ◌∷◌, ◌++◌, codes, Option, Some, None, if◌then◌else◌}
+use Rattle.std.specs.Option.{is_some, option_and_then}
 use Rattle.std.specs.Str.{bytes_eq}
 use Rattle.gateway_cli.specs.Check.{check_of}
-use Rattle.gateway_cli.specs.Files.{Files}
+use Rattle.outside_core.specs.Files.{Files}
 use Rattle.play_script.specs.Play.{Output, Played, PlayedFront, FailsToLoad, IsFront}
 use Rattle.play_script.specs.Printed.{line_feed}
 use Rattle.gateway_cli.specs.Render.{render_of}
+use Rattle.record_fields.specs.Numbers.{number_of}
 
 -- the words are `play` alone
 abbrev pub is_play : List (List ℕ) → Bool
@@ -39,9 +40,37 @@ check_name (word ∷ name ∷ other ∷ words) = None
 abbrev pub is_over_files : List (List ℕ) → Bool
 is_over_files words = is_some (render_names words) || is_some (check_name words)
 
+-- the words are those of a command that serves nothing
+abbrev pub is_plain : List (List ℕ) → Bool
+is_plain words = is_play words || is_over_files words
+
+-- a number from 1 to the most
+abbrev pub in_range : ℕ → ℕ → Option ℕ
+in_range most n = if nat_le 1 n && nat_le n most then Some n else None
+
+-- the number of a word, from 1 to the most
+abbrev pub number_to : ℕ → List ℕ → Option ℕ
+number_to most word = option_and_then (in_range most) (number_of 64 word)
+
+-- a store with a port and a number of lanes, where both are numbers
+abbrev pub asked_of : List ℕ → Option ℕ → Option ℕ → Option (List ℕ × ℕ × ℕ)
+asked_of store None lanes = None
+asked_of store (Some port) None = None
+asked_of store (Some port) (Some lanes) = Some (store, port, lanes)
+
+-- the store, the port and the number of lanes behind `serve`
+abbrev pub serve_asked : List (List ℕ) → Option (List ℕ × ℕ × ℕ)
+serve_asked [] = None
+serve_asked (word ∷ []) = None
+serve_asked (word ∷ store ∷ []) = None
+serve_asked (word ∷ store ∷ port ∷ []) = None
+serve_asked (word ∷ store ∷ port ∷ lanes ∷ []) =
+    if bytes_eq word (codes "serve") && is_argument store then asked_of store (number_to 65535 port) (number_to 8 lanes) else None
+serve_asked (word ∷ store ∷ port ∷ lanes ∷ other ∷ words) = None
+
 -- the words are those of a command
 abbrev pub is_command : List (List ℕ) → Bool
-is_command words = is_play words || is_over_files words
+is_command words = is_plain words || is_some (serve_asked words)
 
 -- what is printed of words of no command
 abbrev pub usage : Output
@@ -55,11 +84,11 @@ abbrev pub named_output : Files → Option (List ℕ × List ℕ) → Option (Li
 named_output files None checked = check_or_usage files checked
 named_output files (Some names) checked = render_of files names.0 names.1
 
--- what is printed of words other than `play`, by the names behind `render` and behind `check`
+-- what is printed of words other than `play` and `serve`, by the names behind `render` and behind `check`
 abbrev pub over_files : Files → List (List ℕ) → Output
 over_files files words = named_output files (render_names words) (check_name words)
 
--- what the program prints with these words, this input and these files, by whether they are `play`
+-- what the program prints with these words, which are not `serve`, this input and these files, by whether they are `play`
 abbrev pub OutcomeBy : Bool → List (List ℕ) → List ℕ → Files → Output → Type 0
 OutcomeBy true words input files output = Played input output
 OutcomeBy false words input files output = output ≡ over_files files words

@@ -2,7 +2,7 @@
 pub mod Check
 -- what the words ask for
 pub mod Commands
--- files, by name
+-- files that are asked for
 pub mod Files
 -- what `render` prints of its files
 pub mod Render

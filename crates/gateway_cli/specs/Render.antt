@@ -9,7 +9,8 @@ use Rattle.vtl_grammar.specs.declared.fault.TemplateFault.{TemplateFault}
 use Rattle.vtl_eval.specs.Printed.{stop_name}
 use Rattle.vtl_eval.specs.declared.stop.Rendered.{Rendered}
 use Rattle.vtl_eval.specs.declared.stop.Stop.{Stop}
-use Rattle.gateway_cli.specs.Files.{Files, content_of, within}
+use Rattle.outside_core.specs.Files.{Files, content_of}
+use Rattle.gateway_cli.specs.Files.{within}
 use Rattle.play_script.specs.Play.{Output, too_long}
 use Rattle.play_script.specs.Printed.{line_feed}
 use Rattle.gateway_cli.specs.Requests.{render_request, render_facts}

@@ -6,9 +6,10 @@ ghost use Rattle.gateway_cli.specs.Files.{Holds, within};
 ghost use Rattle.gateway_cli.specs.Render.{judged, render_of};
 ghost use Rattle.gateway_cli.specs.Top.{OfTold};
 
-use crate::outside::Outside;
 use crate::stopped::Stopped;
+use book_rules::Entry;
 use gw_base::{Bytes, Memory, ReadAll};
+use outside_core::Outside;
 use std::alloc::Global;
 
 /// The most bytes of a template's file.
@@ -21,7 +22,7 @@ const BODY_LIMIT: usize = 10_485_760;
 const DOCUMENT_LIMIT: usize = 1_048_576;
 
 // Asks for a file; one that is over its limit is answered as None.
-fn file_in<O: Outside>(
+fn file_in<O: Outside<Entry>>(
     alloc: Global,
     outside: &mut O,
     name: &str,
@@ -32,6 +33,8 @@ fn file_in<O: Outside>(
     ensures input { result ≢ Err Stopped.Input }
     ensures keeper { result ≢ Err Stopped.Keeper }
     ensures output { result ≢ Err Stopped.Output }
+    ensures keepers { O.keepers_out outside.new ≡ O.keepers_out outside.old }
+    ensures lanes { O.lanes_out outside.new ≡ O.lanes_out outside.old }
     ensures kept { OnOk result (O.faults outside.new ≡ O.faults outside.old) }
     ensures files { O.files outside.new ≡ O.files outside.old }
 {
@@ -54,7 +57,7 @@ fn copy(alloc: Global, bytes: &Option<Bytes>) -> Result<Option<Bytes>, Memory>
 
 /// Asks for the template's file and then for the body's; one that is over its limit is answered as None. A file that is
 /// named twice is asked for once.
-pub fn files_in<O: Outside>(
+pub fn files_in<O: Outside<Entry>>(
     alloc: Global,
     outside: &mut O,
     template: &str,
@@ -66,6 +69,8 @@ pub fn files_in<O: Outside>(
     ensures input { result ≢ Err Stopped.Input }
     ensures keeper { result ≢ Err Stopped.Keeper }
     ensures output { result ≢ Err Stopped.Output }
+    ensures keepers { O.keepers_out outside.new ≡ O.keepers_out outside.old }
+    ensures lanes { O.lanes_out outside.new ≡ O.lanes_out outside.old }
 {
     let first = file_in(alloc, outside, template, TEMPLATE_LIMIT)?;
     if template == body {
@@ -77,7 +82,7 @@ pub fn files_in<O: Outside>(
 }
 
 /// Asks for a document's file; one that is over its limit is answered as None.
-pub fn document_in<O: Outside>(
+pub fn document_in<O: Outside<Entry>>(
     alloc: Global,
     outside: &mut O,
     name: &str,
@@ -88,6 +93,8 @@ pub fn document_in<O: Outside>(
     ensures input { result ≢ Err Stopped.Input }
     ensures keeper { result ≢ Err Stopped.Keeper }
     ensures output { result ≢ Err Stopped.Output }
+    ensures keepers { O.keepers_out outside.new ≡ O.keepers_out outside.old }
+    ensures lanes { O.lanes_out outside.new ≡ O.lanes_out outside.old }
 {
     file_in(alloc, outside, name, DOCUMENT_LIMIT)
 }

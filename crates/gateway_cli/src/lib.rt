@@ -1,9 +1,10 @@
 //! The commands of the program, and the one call that carries them out.
 //!
-//! [`run`] takes the words behind the program's name, an input, an output and the files of the outside, and answers the
-//! program's status. `play` reads a script from the input and plays it over an empty book, as `play_script` says it;
-//! `render TEMPLATE BODY` prints what the template of the one file gives over the body of the other; `check FILE` tells
-//! whether the file is a definition of an API.
+//! [`run`] takes the words behind the program's name, an input, an output and an outside, and answers the program's status.
+//! `play` reads a script from the input and plays it over an empty book, as `play_script` says it; `render TEMPLATE BODY`
+//! prints what the template of the one file gives over the body of the other; `check FILE` tells whether the file is a
+//! definition of an API; `serve STORE PORT LANES` serves a session over so many lanes at a port of the loopback and over the
+//! tables of a store, as `serve_command` says it, and prints its line.
 //!
 //! ```text
 //! let status = run(rt, alloc, &words, &mut input, &mut output, &mut outside);
@@ -23,28 +24,40 @@
 //! | `{"version":1,"resources":{}}` | `ok resources=0 methods=0 models=0` |
 //! | `{"version":1,"a b":1}` | `refused Unknown(a%20b) at /a%20b`, with status 1 |
 //!
-//! What is promised: what `run` writes and answers is the outcome of its words, of its input and of the files, a definition
-//! that speaks of every script (`Plays` of `play_script`), of every two files (`specs/Render.antt`) and of every document
-//! (`specs/Check.antt`) to the byte, or a front of it where memory is wanting or the input, the output or a file fails; the
-//! program tells such a fault only where a count of faults rose in the call, or where the script tells its keeper's load to fail.
+//! | `serve` of | prints |
+//! |---|---|
+//! | `orders 8080 2`, where each lane had one call | `session entries=4 calls=2 admitted=0 throttled=0 quota=0 notkept=0` |
+//! | the same, where the session got full | that line, and `full` with its entries and their bytes, with status 4 |
+//! | the same, where a look for a connection failed | that line, and `fault port`, with status 3 |
+//! | a store whose first row of deployments is none that can be | `refused BadStore(deployments,0)`, with status 1 |
+//! | a store that can't be read, a port that can't be had | `fault keeper`, `fault port`, with status 3 |
+//! | `orders 0 2`, `orders 65536 2`, `orders 8080 9`, `-orders 8080 2` | `usage`, with status 2 |
+//!
+//! What is promised: of every command but `serve`, what `run` writes and answers is the outcome of its words, of its input and
+//! of the files, a definition that speaks of every script (`Plays` of `play_script`), of every two files (`specs/Render.antt`)
+//! and of every document (`specs/Check.antt`) to the byte, or a front of it where memory is wanting or the input, the output or
+//! a file fails; the program tells such a fault only where a count of faults rose in the call, or where the script tells its
+//! keeper's load to fail. Of `serve`, what it writes and answers is that of the ends of the lanes of one session over the
+//! store's tables, or of a bad row of them (`Ends` of `serve_command`); a fault comes only where a count of the outside or of
+//! the output rose, behind what that session wrote (`ServeFaulted` of `specs/Top.antt`). All that the outside lent is given
+//! back at every status.
+//!
+//! Left out: what is written where memory is wanting in `serve`.
 #![tactic(auto)]
 
-mod adapters;
 mod check;
 mod files;
 pub mod laws;
-mod outside;
+mod limits;
 mod program;
 mod render;
 mod requests;
 mod say;
-mod shelf;
+mod serving;
 mod shown;
 mod stopped;
 mod words;
 
-pub use adapters::{DiskOutside, ReaderSource, WriterSink};
-pub use outside::Outside;
+pub use outside_core::{MemOutside, MemStore, Outside};
 pub use play_script::{PlayStop, play_within};
 pub use program::run;
-pub use shelf::MemOutside;

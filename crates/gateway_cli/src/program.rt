@@ -1,33 +1,33 @@
 // The top call.
-ghost use Rattle.std.specs.Prelude.{◌≡◌, ◌≢◌, ◌<◌, ◌≤◌, List, ℕ, IfOk, OnErr, IsErrOf, Err, Ok, Some, None, length, true, false};
+ghost use Rattle.std.specs.Prelude.{◌≡◌, ◌≢◌, ◌<◌, ◌≤◌, List, ℕ, IfOk, OnErr, IsErrOf, Err, Ok, Some, None, IfSome, length, true, false};
 ghost use Rattle.std.specs.Bool.{MatchBool};
 ghost use Rattle.std.specs.Io.KnownBytes.{IsAtEnd};
 ghost use Rattle.gw_base.specs.Outside.{Rose};
 ghost use Rattle.gw_base.specs.Whole.{AppendsFront};
 ghost use Rattle.gateway_cli.specs.Check.{check_of};
-ghost use Rattle.gateway_cli.specs.Commands.{Outcome, OutcomeFront, TellsLoadToFail, usage, is_command, is_over_files, is_play as is_play_of, over_files as over_files_of};
-ghost use Rattle.play_script.specs.Play.{Played, PlayedFront, FailsToLoad, SaysFront, is_command_status};
+ghost use Rattle.gateway_cli.specs.Commands.{Outcome, OutcomeFront, TellsLoadToFail, usage, is_command, is_plain, is_over_files, is_play as is_play_of, over_files as over_files_of, serve_asked as serve_asked_of};
+ghost use Rattle.play_script.specs.Play.{Played, PlayedFront, FailsToLoad, SaysFront, is_command_status, session_limits};
 ghost use Rattle.gateway_cli.specs.Render.{render_of};
-ghost use Rattle.gateway_cli.specs.Top.{OfTold, Answered, Says, Faulted, play_stopped_by};
+ghost use Rattle.gateway_cli.specs.Top.{OfTold, Answered, Says, Faulted, ServeFaulted, play_stopped_by};
+ghost use Rattle.serve_command.specs.Serving.{Ends};
+ghost use Rattle.serve_command.specs.Shelves.{Shelves, AllIsBack};
 
 use crate::check::check_within;
 use crate::files::{document_in, files_in};
-use crate::outside::Outside;
+use crate::limits::SESSION_LIMITS;
 use crate::render::judge;
 use crate::say::{say, say_fault};
+use crate::serving::serve;
 use crate::stopped::Stopped;
-use crate::words::{check_name, is_play, render_names};
-use book_rules::Limits;
+use crate::words::{check_name, is_play, render_names, serve_asked};
+use book_rules::Entry;
+use gate_ports::Port;
 use gw_base::{ReadAll, Sink, Source, Text, read_all};
+use outside_core::Outside;
 use play_script::{PlayStop, play_within};
 use std::alloc::Global;
 use std::sync::Wait;
-
-/// The limits of a session.
-const SESSION_LIMITS: Limits = Limits {
-    entries: 1_048_576,
-    bytes: 268_435_456,
-};
+use std::thread::Threads;
 
 /// The most bytes of a script.
 const SCRIPT_LIMIT: usize = 67_108_864;
@@ -106,7 +106,7 @@ fn play<I: Source, W: Sink, R: Wait>(
 }
 
 // Asks for both files, and then renders the one over the other.
-fn render<W: Sink, O: Outside>(
+fn render<W: Sink, O: Outside<Entry>>(
     alloc: Global,
     template: &str,
     body: &str,
@@ -120,6 +120,8 @@ fn render<W: Sink, O: Outside>(
     ensures file { IsErrOf result Stopped.File → Rose (O.faults outside.old) (O.faults outside.new) }
     ensures keeper { result ≢ Err Stopped.Keeper }
     ensures output { IsErrOf result Stopped.Output → Rose (W.faults output.old) (W.faults output.new) × (O.faults outside.new ≡ O.faults outside.old) }
+    ensures keepers { O.keepers_out outside.new ≡ O.keepers_out outside.old }
+    ensures lanes { O.lanes_out outside.new ≡ O.lanes_out outside.old }
 {
     let (template, body) = files_in(alloc, outside, template, body)?;
     let shown = judge(alloc, &template, &body)?;
@@ -127,7 +129,7 @@ fn render<W: Sink, O: Outside>(
 }
 
 // Asks for the file of a document, and then reads it.
-fn check<W: Sink, O: Outside>(
+fn check<W: Sink, O: Outside<Entry>>(
     alloc: Global,
     name: &str,
     output: &mut W,
@@ -140,6 +142,8 @@ fn check<W: Sink, O: Outside>(
     ensures file { IsErrOf result Stopped.File → Rose (O.faults outside.old) (O.faults outside.new) }
     ensures keeper { result ≢ Err Stopped.Keeper }
     ensures output { IsErrOf result Stopped.Output → Rose (W.faults output.old) (W.faults output.new) × (O.faults outside.new ≡ O.faults outside.old) }
+    ensures keepers { O.keepers_out outside.new ≡ O.keepers_out outside.old }
+    ensures lanes { O.lanes_out outside.new ≡ O.lanes_out outside.old }
 {
     let document = document_in(alloc, outside, name)?;
     let shown = check_within(alloc, &document)?;
@@ -159,8 +163,8 @@ fn say_usage<W: Sink>(output: &mut W) -> Result<u8, Stopped>
     say(output, b"usage\n", 2)
 }
 
-// Does what words other than `play` say.
-fn over_files<W: Sink, O: Outside>(
+// Does what words other than `play` and `serve` say.
+fn over_files<W: Sink, O: Outside<Entry>>(
     alloc: Global,
     words: &[Text],
     output: &mut W,
@@ -173,6 +177,8 @@ fn over_files<W: Sink, O: Outside>(
     ensures file { IsErrOf result Stopped.File → Rose (O.faults outside.old) (O.faults outside.new) }
     ensures keeper { result ≢ Err Stopped.Keeper }
     ensures output { IsErrOf result Stopped.Output → Rose (W.faults output.old) (W.faults output.new) × (O.faults outside.new ≡ O.faults outside.old) }
+    ensures keepers { O.keepers_out outside.new ≡ O.keepers_out outside.old }
+    ensures lanes { O.lanes_out outside.new ≡ O.lanes_out outside.old }
 {
     if let Some((template, body)) = render_names(words) {
         return render(alloc, template, body, output, outside);
@@ -183,8 +189,8 @@ fn over_files<W: Sink, O: Outside>(
     }
 }
 
-// Does what the words say.
-fn respond<I: Source, W: Sink, O: Outside, R: Wait>(
+// Does what words other than `serve` say.
+fn respond<I: Source, W: Sink, O: Outside<Entry>, R: Wait>(
     rt: &R,
     alloc: Global,
     words: &[Text],
@@ -196,7 +202,7 @@ fn respond<I: Source, W: Sink, O: Outside, R: Wait>(
         Says (W.written output.old) (W.written output.new) (Outcome words.now script files) status))) }
     ensures front { OnErr result (OfTold (I.left input.old) (λ script. OfTold (O.files outside.old) (λ files.
         SaysFront (W.written output.old) (W.written output.new) (OutcomeFront words.now script files)))) }
-    ensures known { IfOk result (λ status. MatchBool (is_command words.now) (is_command_status status ≡ true) (status ≡ 2)) }
+    ensures known { IfOk result (λ status. MatchBool (is_plain words.now) (is_command_status status ≡ true) (status ≡ 2)) }
     ensures read { IfOk result (λ status. status ≡ 0 → is_play_of words.now ≡ true → IsAtEnd (I.left input.new)) }
     ensures unread { is_play_of words.now ≡ false → I.left input.new ≡ I.left input.old }
     ensures input { IsErrOf result Stopped.Input → Rose (I.faults input.old) (I.faults input.new) }
@@ -207,6 +213,8 @@ fn respond<I: Source, W: Sink, O: Outside, R: Wait>(
     ensures output { IsErrOf result Stopped.Output → Rose (W.faults output.old) (W.faults output.new) × (I.faults input.new ≡ I.faults input.old) × (O.faults outside.new ≡ O.faults outside.old) }
     ensures loaded { IsErrOf result Stopped.Output → OfTold (I.left input.old) (λ script. OfTold (O.files outside.old) (λ files.
         (TellsLoadToFail words.now script → ⊥) × SaysFront (W.written output.old) (W.written output.new) (OutcomeFront words.now script files))) }
+    ensures keepers { O.keepers_out outside.new ≡ O.keepers_out outside.old }
+    ensures lanes { O.lanes_out outside.new ≡ O.lanes_out outside.old }
 {
     if is_play(words) {
         return play(rt, alloc, input, output);
@@ -214,10 +222,8 @@ fn respond<I: Source, W: Sink, O: Outside, R: Wait>(
     over_files(alloc, words, output, outside)
 }
 
-/// Does what the words say, and answers the status: 0 done, 1 a line, the script, a template or a document was refused or
-/// a render stopped, 2 the words are none of a command, 3 the input, the output or a file failed, or a script told its keeper's
-/// load to fail, 4 the session is full, 5 memory is wanting. The words are those behind the program's name.
-pub fn run<I: Source, W: Sink, O: Outside, R: Wait>(
+// Does what words other than `serve` say, says why it stops where it does, and answers the status.
+fn answer<I: Source, W: Sink, O: Outside<Entry>, R: Wait>(
     rt: &R,
     alloc: Global,
     words: &[Text],
@@ -225,34 +231,23 @@ pub fn run<I: Source, W: Sink, O: Outside, R: Wait>(
     output: &mut W,
     outside: &mut O,
 ) -> u8
-    // What is written and answered is the outcome of the words, of the input and of the files.
     ensures exact { result ≢ 3 → result ≢ 5 → OfTold (I.left input.old) (λ script. OfTold (O.files outside.old) (λ files.
         Says (W.written output.old) (W.written output.new) (Outcome words.now script files) result)) }
-
-    // Where memory is wanting, a front of it is written.
     ensures memory { result ≡ 5 → OfTold (I.left input.old) (λ script. OfTold (O.files outside.old) (λ files.
         SaysFront (W.written output.old) (W.written output.new) (OutcomeFront words.now script files))) }
-
-    // A fault comes only where a count rose in this call, of the input, the files or the output, or where the script told the
-    // keeper's load to fail: the first in the order in which they come is the cause, and the load comes before the output. A front is written, and then a front of
-    // the one line that names it, also where that line's own write fails.
     ensures fault { result ≡ 3 → OfTold (I.left input.old) (λ script. OfTold (O.files outside.old) (λ files.
         Faulted (W.written output.old) (W.written output.new) (OutcomeFront words.now script files)
         (record { before = I.faults input.old; now = I.faults input.new })
         (record { before = O.faults outside.old; now = O.faults outside.new })
         (record { before = W.faults output.old; now = W.faults output.new })
         (TellsLoadToFail words.now script))) }
-
-    // Words of no command, and no others, are told so.
-    ensures usage { result ≡ 2 → is_command words.now ≡ false }
-    ensures other { is_command words.now ≡ false → (result ≢ 0) × (result ≢ 1) × (result ≢ 4) }
-
-    // At status 0 of `play` the end of the input was reached; no other command reads of it.
+    ensures usage { result ≡ 2 → is_plain words.now ≡ false }
+    ensures other { is_plain words.now ≡ false → (result ≢ 0) × (result ≢ 1) × (result ≢ 4) }
     ensures read { result ≡ 0 → is_play_of words.now ≡ true → IsAtEnd (I.left input.new) }
     ensures unread { is_play_of words.now ≡ false → I.left input.new ≡ I.left input.old }
-
-    // No other status is answered.
     ensures known { result ≤ 5 }
+    ensures keepers { O.keepers_out outside.new ≡ O.keepers_out outside.old }
+    ensures lanes { O.lanes_out outside.new ≡ O.lanes_out outside.old }
 {
     match respond(rt, alloc, words, input, output, outside) {
         Ok(status) => status,
@@ -273,5 +268,62 @@ pub fn run<I: Source, W: Sink, O: Outside, R: Wait>(
             say_fault(output, b"fault output\n");
             3
         }
+    }
+}
+
+/// Does what the words say, and answers the status: 0 done, 1 a line, the script, a template, a document or a row of a store was
+/// refused or a render stopped, 2 the words are none of a command, 3 the input, the output, a file, a keeper or a port failed, or a
+/// script told its keeper's load to fail, 4 the session is full, 5 memory is wanting. The words are those behind the program's name.
+pub fn run<I: Source, W: Sink, O: Outside<Entry>, R: Threads + Wait + Sync>(
+    rt: &R,
+    alloc: Global,
+    words: &[Text],
+    input: &mut I,
+    output: &mut W,
+    outside: &mut O,
+) -> u8
+where
+    <O::Door as Port>::Link: Send,
+    // Of words other than `serve`, what is written and answered is the outcome of the words, of the input and of the files.
+    ensures exact { serve_asked_of words.now ≡ None → result ≢ 3 → result ≢ 5 → OfTold (I.left input.old) (λ script. OfTold (O.files outside.old) (λ files.
+        Says (W.written output.old) (W.written output.new) (Outcome words.now script files) result)) }
+
+    // Where memory is wanting, a front of it is written.
+    ensures memory { serve_asked_of words.now ≡ None → result ≡ 5 → OfTold (I.left input.old) (λ script. OfTold (O.files outside.old) (λ files.
+        SaysFront (W.written output.old) (W.written output.new) (OutcomeFront words.now script files))) }
+
+    // A fault comes only where a count rose in this call, of the input, the files or the output, or where the script told the
+    // keeper's load to fail: the first in the order in which they come is the cause, and the load comes before the output. A front is written, and then a front of
+    // the one line that names it, also where that line's own write fails.
+    ensures fault { serve_asked_of words.now ≡ None → result ≡ 3 → OfTold (I.left input.old) (λ script. OfTold (O.files outside.old) (λ files.
+        Faulted (W.written output.old) (W.written output.new) (OutcomeFront words.now script files)
+        (record { before = I.faults input.old; now = I.faults input.new })
+        (record { before = O.faults outside.old; now = O.faults outside.new })
+        (record { before = W.faults output.old; now = W.faults output.new })
+        (TellsLoadToFail words.now script))) }
+
+    // Of `serve`, the status and what is written are those of the ends of the lanes of one session, or of a bad row of the store.
+    ensures serves { IfSome (serve_asked_of words.now) (λ asked. result ≢ 3 → result ≢ 5 → Ends session_limits asked.0 asked.2 (record { stores = O.stores outside.old; waiting = O.waiting outside.old; kept_back = O.kept_back outside.old; returned = O.returned outside.old; sessions = O.Archive.sessions outside.old; faults = O.faults outside.old; keepers_out = O.keepers_out outside.old; lanes_out = O.lanes_out outside.old }) (record { stores = O.stores outside.new; waiting = O.waiting outside.new; kept_back = O.kept_back outside.new; returned = O.returned outside.new; sessions = O.Archive.sessions outside.new; faults = O.faults outside.new; keepers_out = O.keepers_out outside.new; lanes_out = O.lanes_out outside.new }) (W.written output.old) (W.written output.new) result) }
+
+    // A fault comes only where a count rose in this call, of the outside or of the output, and the line behind what was written names it.
+    ensures serve_fault { IfSome (serve_asked_of words.now) (λ asked. result ≡ 3 → ServeFaulted session_limits asked.0 asked.2 (record { stores = O.stores outside.old; waiting = O.waiting outside.old; kept_back = O.kept_back outside.old; returned = O.returned outside.old; sessions = O.Archive.sessions outside.old; faults = O.faults outside.old; keepers_out = O.keepers_out outside.old; lanes_out = O.lanes_out outside.old }) (record { stores = O.stores outside.new; waiting = O.waiting outside.new; kept_back = O.kept_back outside.new; returned = O.returned outside.new; sessions = O.Archive.sessions outside.new; faults = O.faults outside.new; keepers_out = O.keepers_out outside.new; lanes_out = O.lanes_out outside.new }) (record { before = W.faults output.old; now = W.faults output.new }) (W.written output.old) (W.written output.new)) }
+
+    // All that the outside lent is given back.
+    ensures given_back { AllIsBack (record { stores = O.stores outside.old; waiting = O.waiting outside.old; kept_back = O.kept_back outside.old; returned = O.returned outside.old; sessions = O.Archive.sessions outside.old; faults = O.faults outside.old; keepers_out = O.keepers_out outside.old; lanes_out = O.lanes_out outside.old }) (record { stores = O.stores outside.new; waiting = O.waiting outside.new; kept_back = O.kept_back outside.new; returned = O.returned outside.new; sessions = O.Archive.sessions outside.new; faults = O.faults outside.new; keepers_out = O.keepers_out outside.new; lanes_out = O.lanes_out outside.new }) }
+
+    // Words of no command, and no others, are told so.
+    ensures usage { result ≡ 2 → is_command words.now ≡ false }
+    ensures other { is_command words.now ≡ false → (result ≢ 0) × (result ≢ 1) × (result ≢ 4) }
+
+    // At status 0 of `play` the end of the input was reached; no other command reads of it.
+    ensures read { result ≡ 0 → is_play_of words.now ≡ true → IsAtEnd (I.left input.new) }
+    ensures unread { is_play_of words.now ≡ false → I.left input.new ≡ I.left input.old }
+
+    // No other status is answered.
+    ensures known { result ≤ 5 }
+{
+    match serve_asked(words) {
+        Some(asked) => serve(rt, alloc, &asked, output, outside),
+        None => answer(rt, alloc, words, input, output, outside),
     }
 }

@@ -1,9 +1,11 @@
 // What the words ask for.
-ghost use Rattle.std.specs.Prelude.{◌≡◌};
+ghost use Rattle.std.specs.Prelude.{◌≡◌, ◌≤◌, IfSome};
 ghost use Rattle.std.specs.Option.{option_map};
-ghost use Rattle.gateway_cli.specs.Commands.{is_play as is_play_of, is_argument as is_argument_of, render_names as render_names_of, check_name as check_name_of};
+ghost use Rattle.gateway_cli.specs.Commands.{is_play as is_play_of, is_argument as is_argument_of, render_names as render_names_of, check_name as check_name_of, number_to as number_to_of, serve_asked as serve_asked_of};
 
 use gw_base::Text;
+use record_fields::number;
+use serve_command::Asked;
 
 /// Whether the words are `play` alone.
 pub fn is_play(words: &[Text]) -> bool
@@ -53,4 +55,36 @@ pub fn check_name(words: &[Text]) -> Option<&str>
     } else {
         None
     }
+}
+
+// The number of a word, from 1 to the most.
+fn number_to(most: u64, word: &str) -> Option<u64>
+    ensures number { result ≡ number_to_of most word.now }
+    ensures within { IfSome result (λ n. (1 ≤ n) × (n ≤ most)) }
+{
+    match number(word.as_bytes()) {
+        Some(n) if 1 <= n && n <= most => Some(n),
+        _ => None,
+    }
+}
+
+/// What is to be served behind `serve`.
+pub fn serve_asked(words: &[Text]) -> Option<Asked>
+    ensures asked { option_map (λ asked. (asked.store.now, asked.port, asked.lanes)) result ≡ serve_asked_of words.now }
+    ensures lanes { IfSome result (λ asked. (1 ≤ asked.lanes) × (asked.lanes ≤ 8)) }
+{
+    let [word, store, port, lanes] = words else {
+        return None;
+    };
+    let store = store.as_str();
+    if word.as_str() != "serve" || !is_argument(store) {
+        return None;
+    }
+    let port = number_to(65_535, port.as_str())?;
+    let lanes = number_to(8, lanes.as_str())?;
+    Some(Asked {
+        store,
+        port: port as u16,
+        lanes: lanes as usize,
+    })
 }

@@ -1,9 +1,11 @@
 // The calls of a script: connections of any number of messages, to the byte.
-use gateway_cli::{MemOutside, run};
+use crate::renders::outside_of;
+use gateway_cli::run;
 use gw_base::{MemSink, MemSource, Text};
 use std::alloc::Global;
 use std::sync::Wait;
 use std::test::Fail;
+use std::thread::Threads;
 
 const DEPLOYED: &str = "text 0 hello Hi%20$input.body!\ndeploy 0 hello\nstage 0 hello v1 1\n";
 
@@ -25,14 +27,18 @@ fn text(alloc: Global, parts: &[&str]) -> Result<String, Fail> {
 }
 
 /// What a script prints behind the three records above, and the status.
-fn played<R: Wait>(rt: &R, alloc: Global, rest: &str) -> Result<(u8, MemSink), Fail> {
+fn played<R: Threads + Wait + Sync>(
+    rt: &R,
+    alloc: Global,
+    rest: &str,
+) -> Result<(u8, MemSink), Fail> {
     let script = text(alloc, &[DEPLOYED, rest])?;
     let mut words = Vec::new(alloc);
     words.push(Text::of(String::from_str(alloc, "play")?))?;
     let bytes = Vec::from_slice(alloc, script.as_bytes())?;
     let mut input = MemSource::new(bytes, 4096, Vec::new(alloc));
     let mut output = MemSink::new(alloc, Vec::new(alloc));
-    let mut outside = MemOutside::new(Vec::new(alloc), Vec::new(alloc));
+    let mut outside = outside_of(alloc, Vec::new(alloc), Vec::new(alloc));
     let status = run(rt, alloc, &words, &mut input, &mut output, &mut outside);
     Ok((status, output))
 }

@@ -1,25 +1,26 @@
 ghost use Rattle.std.specs.Prelude.{◌<◌};
 
-use crate::renders::{text, words};
-use gateway_cli::{MemOutside, run};
+use crate::renders::{Files, outside_of, text, words};
+use gateway_cli::run;
 use gw_base::{Bytes, MemSink, MemSource};
 use std::alloc::Global;
 use std::sync::Wait;
 use std::test::Fail;
+use std::thread::Threads;
 
 /// The file `d`.
-fn document(alloc: Global, bytes: &[u8], fails: &[u32]) -> Result<MemOutside, Fail> {
+fn document(alloc: Global, bytes: &[u8], fails: &[u32]) -> Result<Files, Fail> {
     let mut files = Vec::new(alloc);
     files.push((text(alloc, "d")?, Bytes::of(Vec::from_slice(alloc, bytes)?)))?;
-    Ok(MemOutside::new(files, Vec::from_slice(alloc, fails)?))
+    Ok(outside_of(alloc, files, Vec::from_slice(alloc, fails)?))
 }
 
 /// What these words answer and print. A read of the input would fail.
-fn told<R: Wait>(
+fn told<R: Threads + Wait + Sync>(
     rt: &R,
     alloc: Global,
     from: &[&str],
-    outside: &mut MemOutside,
+    outside: &mut Files,
 ) -> Result<(u8, MemSink), Fail> {
     let mut input = MemSource::new(Vec::new(alloc), 1, Vec::from_slice(alloc, &[0])?);
     let mut output = MemSink::new(alloc, Vec::new(alloc));

@@ -1,10 +1,22 @@
 ghost use Rattle.std.specs.Prelude.{◌<◌};
 
+use backend_core::MemBackend;
+use book_rules::Entry;
+use gate_ports::FreeGate;
 use gateway_cli::{MemOutside, Outside, run};
 use gw_base::{Bytes, MemSink, MemSource, ReadAll, Text};
 use std::alloc::Global;
 use std::sync::Wait;
 use std::test::Fail;
+use std::thread::Threads;
+
+/// An outside with files and nothing else.
+pub(crate) type Files = MemOutside<Entry, MemBackend, FreeGate>;
+
+/// These files; the calls of these numbers fail.
+pub(crate) fn outside_of(alloc: Global, files: Vec<(Text, Bytes)>, fails: Vec<u32>) -> Files {
+    MemOutside::new(files, Vec::new(alloc), Vec::new(alloc), fails)
+}
 
 pub(crate) fn text(alloc: Global, from: &str) -> Result<Text, Fail> {
     Ok(Text::of(String::from_str(alloc, from)?))
@@ -19,22 +31,22 @@ pub(crate) fn words(alloc: Global, from: &[&str]) -> Result<Vec<Text>, Fail> {
 }
 
 /// The files `t` and `b`.
-fn files(alloc: Global, template: &[u8], body: &[u8], fails: &[u32]) -> Result<MemOutside, Fail> {
+fn files(alloc: Global, template: &[u8], body: &[u8], fails: &[u32]) -> Result<Files, Fail> {
     let mut files = Vec::new(alloc);
     files.push((
         text(alloc, "t")?,
         Bytes::of(Vec::from_slice(alloc, template)?),
     ))?;
     files.push((text(alloc, "b")?, Bytes::of(Vec::from_slice(alloc, body)?)))?;
-    Ok(MemOutside::new(files, Vec::from_slice(alloc, fails)?))
+    Ok(outside_of(alloc, files, Vec::from_slice(alloc, fails)?))
 }
 
 // What these words answer and print, where nothing is read.
-pub(crate) fn answered<R: Wait>(
+pub(crate) fn answered<R: Threads + Wait + Sync>(
     rt: &R,
     alloc: Global,
     words: &[Text],
-    outside: &mut MemOutside,
+    outside: &mut Files,
     fails: &[u32],
 ) -> Result<(u8, MemSink), Fail> {
     let mut input = MemSource::new(Vec::new(alloc), 1, Vec::new(alloc));
@@ -44,10 +56,10 @@ pub(crate) fn answered<R: Wait>(
 }
 
 /// What `render t b` answers and prints. A read of its input would fail.
-fn rendered<R: Wait>(
+fn rendered<R: Threads + Wait + Sync>(
     rt: &R,
     alloc: Global,
-    outside: &mut MemOutside,
+    outside: &mut Files,
 ) -> Result<(u8, MemSink), Fail> {
     let mut input = MemSource::new(Vec::new(alloc), 1, Vec::from_slice(alloc, &[0])?);
     let mut output = MemSink::new(alloc, Vec::new(alloc));
@@ -218,7 +230,7 @@ fn bytes_that_are_no_utf_8_are_replaced(rt: HostRuntime) -> Result<(), Fail> {
 }
 
 /// What `render` answers and prints of a template over a body.
-fn told<R: Wait>(
+fn told<R: Threads + Wait + Sync>(
     rt: &R,
     alloc: Global,
     template: &[u8],
@@ -284,7 +296,7 @@ fn a_file_that_fails_is_told_before_all_else(rt: HostRuntime) -> Result<(), Fail
             text(alloc, name)?,
             Bytes::of(Vec::from_slice(alloc, b"#if")?),
         ))?;
-        let mut outside = MemOutside::new(held, Vec::new(alloc));
+        let mut outside = outside_of(alloc, held, Vec::new(alloc));
         let (status, output) = rendered(&rt, alloc, &mut outside)?;
         assert_eq!(rt; status, 3);
         assert_eq!(rt; output.bytes(), b"fault file\n".as_slice());

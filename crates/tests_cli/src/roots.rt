@@ -1,7 +1,6 @@
 // The values below the roots, as the documents show them, and the examples that use them.
-use crate::renders::{answered, words};
+use crate::renders::{answered, outside_of, words};
 use crate::scripts::told;
-use gateway_cli::MemOutside;
 use gw_base::{Bytes, Text};
 use record_fields::encode;
 use std::alloc::Global;
@@ -106,7 +105,7 @@ fn the_examples_are_rendered(rt: HostRuntime) -> Result<(), Fail> {
             Text::of(String::from_str(alloc, "b")?),
             Bytes::of(Vec::from_slice(alloc, body.as_bytes())?),
         ))?;
-        let mut outside = MemOutside::new(files, Vec::new(alloc));
+        let mut outside = outside_of(alloc, files, Vec::new(alloc));
         let (status, output) = answered(&rt, alloc, &render, &mut outside, &[])?;
         assert_eq!(rt; status, 0);
         assert_eq!(rt; output.bytes(), said.as_bytes());

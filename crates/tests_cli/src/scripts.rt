@@ -1,11 +1,13 @@
 ghost use Rattle.std.specs.Prelude.{◌<◌};
 
+use crate::renders::{Files, outside_of};
 use book_rules::Limits;
-use gateway_cli::{MemOutside, PlayStop, play_within, run};
+use gateway_cli::{PlayStop, play_within, run};
 use gw_base::{MemSink, MemSource, Sink, Source, Text};
 use std::alloc::Global;
 use std::sync::Wait;
 use std::test::Fail;
+use std::thread::Threads;
 
 const HELLO: &str =
     "text 0 hello Hi%20$input.body!\ndeploy 0 hello\nstage 0 hello v1 1\npost 0 0 hello v1 Ann\n";
@@ -22,8 +24,8 @@ fn words(alloc: Global, word: &str) -> Result<Vec<Text>, Fail> {
     Ok(words)
 }
 
-fn no_files(alloc: Global) -> MemOutside {
-    MemOutside::new(Vec::new(alloc), Vec::new(alloc))
+fn no_files(alloc: Global) -> Files {
+    outside_of(alloc, Vec::new(alloc), Vec::new(alloc))
 }
 
 fn source(alloc: Global, script: &str, step: usize, fails: &[u32]) -> Result<MemSource, Fail>
@@ -34,13 +36,18 @@ fn source(alloc: Global, script: &str, step: usize, fails: &[u32]) -> Result<Mem
 }
 
 // What these words answer over the hello script.
-fn asked<R: Wait>(rt: &R, alloc: Global, words: &[Text], output: &mut MemSink) -> Result<u8, Fail> {
+fn asked<R: Threads + Wait + Sync>(
+    rt: &R,
+    alloc: Global,
+    words: &[Text],
+    output: &mut MemSink,
+) -> Result<u8, Fail> {
     let mut input = source(alloc, HELLO, 4096, &[])?;
     Ok(run(rt, alloc, words, &mut input, output, &mut no_files(alloc)))
 }
 
 // What `play` answers.
-fn played<R: Wait>(
+fn played<R: Threads + Wait + Sync>(
     rt: &R,
     alloc: Global,
     input: &mut MemSource,
@@ -51,7 +58,11 @@ fn played<R: Wait>(
 }
 
 // What a script that is read and written whole comes to.
-pub(crate) fn told<R: Wait>(rt: &R, alloc: Global, script: &str) -> Result<(u8, MemSink), Fail> {
+pub(crate) fn told<R: Threads + Wait + Sync>(
+    rt: &R,
+    alloc: Global,
+    script: &str,
+) -> Result<(u8, MemSink), Fail> {
     let mut input = source(alloc, script, 4096, &[])?;
     let mut output = MemSink::new(alloc, Vec::new(alloc));
     let status = played(rt, alloc, &mut input, &mut output)?;
@@ -264,14 +275,22 @@ usage
 }
 
 // What the hello script comes to where this read, or this write, fails.
-fn read_failing<R: Wait>(rt: &R, alloc: Global, call: u32) -> Result<(u8, MemSink), Fail> {
+fn read_failing<R: Threads + Wait + Sync>(
+    rt: &R,
+    alloc: Global,
+    call: u32,
+) -> Result<(u8, MemSink), Fail> {
     let mut input = source(alloc, HELLO, 60, &[call])?;
     let mut output = MemSink::new(alloc, Vec::new(alloc));
     let status = played(rt, alloc, &mut input, &mut output)?;
     Ok((status, output))
 }
 
-fn write_failing<R: Wait>(rt: &R, alloc: Global, call: u32) -> Result<(u8, MemSink), Fail> {
+fn write_failing<R: Threads + Wait + Sync>(
+    rt: &R,
+    alloc: Global,
+    call: u32,
+) -> Result<(u8, MemSink), Fail> {
     let mut input = source(alloc, HELLO, 4096, &[])?;
     let mut output = MemSink::new(alloc, Vec::from_slice(alloc, &[call])?);
     let status = played(rt, alloc, &mut input, &mut output)?;
@@ -320,7 +339,7 @@ fault output
 }
 
 // What the hello script comes to in a session of this many entries.
-fn played_within<R: Wait>(
+fn played_within<R: Threads + Wait + Sync>(
     rt: &R,
     alloc: Global,
     entries: u32,

@@ -1,0 +1,20 @@
+//! Tests of the command `serve` through `run`, over an outside in memory: two lanes, each with one connection, and the store `a`.
+//!
+//! | Module | Shows |
+//! |---|---|
+//! | `sessions` | what is answered on the lanes, and what the outside has behind the session |
+//! | `endings` | a table of outsides with the lines that are printed and the statuses |
+//! | `wording` | words that ask for nothing that can be served |
+//! | `stores`, `outsides` | what the tests stand on |
+#![tactic(auto)]
+
+#[cfg(test)]
+mod endings;
+#[cfg(test)]
+mod outsides;
+#[cfg(test)]
+mod sessions;
+#[cfg(test)]
+mod stores;
+#[cfg(test)]
+mod wording;

@@ -44,8 +44,8 @@ pub post_send : (K P B T W G L : RattleType) (k : KeeperGhosts K.Denot) (p : Por
 post_send K P B T W G L k p r s b t w sk sp sb st sw sg =
     let own = book_seat_send K k sk in
     view_send _ _ _ _ _ (
-      declared_send (inside.the_type K P B T W G L k p r s b t w)
-      (lane.the_send P B T W G sp sb st sw sg, (option_send _ own, (search (end.the_send, sendable) depth 20, tt)))
+    declared_send (inside.the_type K P B T W G L k p r s b t w)
+    (lane.the_send P B T W G sp sb st sw sg, (option_send _ own, (search (end.the_send, sendable) depth 20, tt)))
     )
 
 -- the desk of a book, behind a reference

@@ -11,8 +11,7 @@ use std::alloc::Global;
 fn counted_line(alloc: Global, entries: usize, calls: u64, lost: u64) -> Result<Text, Memory>
     ensures { IfOk result (λ line. line ≡ counted_line_of entries calls lost) }
 {
-    let line = format!(
-        in alloc;
+    let line = format!(in alloc;
         "session entries={entries} calls={calls} admitted=0 throttled=0 quota=0 notkept={lost}\n"
     )?;
     Ok(Text::of(line))

@@ -26,7 +26,7 @@ pub(crate) struct Post<K: Keeper, P: Port, B: Backend, T: Clock, W: Words, G> {
 
 impl<K: Keeper, P: Port, B: Backend, T: Clock, W: Words, G> Model for Post<K, P, B, T, W, G> {
     ghost use Rattle.gate_session.specs.Posts.{PostFacts};
-ghost use Rattle.outside_core.specs.Told.{told_of};
+    ghost use Rattle.outside_core.specs.Told.{told_of};
 
     ghost Value = { PostFacts };
 
@@ -64,12 +64,7 @@ pub(crate) fn serve_posts<
     T: Clock + Send,
     W: Words + Send,
     G: Gate + Send,
->(
-    rt: &R,
-    alloc: Global,
-    desk: &Desk<Book<K>>,
-    posts: &mut [Post<K, P, B, T, W, G>],
-)
+>(rt: &R, alloc: Global, desk: &Desk<Book<K>>, posts: &mut [Post<K, P, B, T, W, G>])
 where
     P::Link: Send,
     requires { All (IsReady desk.now) posts.old }
@@ -79,7 +74,10 @@ where
         return;
     }
     let lanes = posts.len();
-    thread::for_each_mut(rt, posts, lanes, &|_, post| {
-        serve_post(rt, alloc, desk, post)
-    });
+    thread::for_each_mut(
+        rt,
+        posts,
+        lanes,
+        &|_, post| { serve_post(rt, alloc, desk, post) },
+    );
 }

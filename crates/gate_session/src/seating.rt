@@ -69,7 +69,11 @@ pub(crate) fn unseat_lanes<K: Keeper, P: Port, B: Backend, T: Clock, W: Words, G
 {
     let mut seat = seat;
     while !posts.is_empty() {
-        let Post { lane, seat: own, end } = posts.remove(0);
+        let Post {
+            lane,
+            seat: own,
+            end,
+        } = posts.remove(0);
         let (Some(own), Some(end)) = (own, end) else {
             unreachable!()
         };

@@ -59,8 +59,14 @@ loop-posts-preserved g c =
       behind = all_behind (λ (s : Seat). IsPrefix s.seen c.join-seat.result.seen) i.seats own
           (all_by (λ (s : Seat). IsPrefix s.seen c.loop-posts.seat.seen) (λ (s : Seat). IsPrefix s.seen c.join-seat.result.seen) i.seats (λ s q. prefix_far s.seen c.loop-posts.seat.seen c.join-seat.result.seen q j.behind.0) i.behind)
           j.behind.1;
-      same = (ap (λ s. s.desk) j.both ∙ i.same.0, ap (λ s. s.seats) j.both ∙ i.same.1, ap (λ s. s.number) j.both ∙ i.same.2, ap (λ s. s.base) j.both ∙ i.same.3, ap (λ s. s.mine) j.both ∙ i.same.4,
-          ap (λ s. s.spare) j.both ∙ ap (λ l. l ++ own.spare) i.same.5 ∙ back.2);
+      same = (
+        ap (λ s. s.desk) j.both ∙ i.same.0,
+        ap (λ s. s.seats) j.both ∙ i.same.1,
+        ap (λ s. s.number) j.both ∙ i.same.2,
+        ap (λ s. s.base) j.both ∙ i.same.3,
+        ap (λ s. s.mine) j.both ∙ i.same.4,
+        ap (λ s. s.spare) j.both ∙ ap (λ l. l ++ own.spare) i.same.5 ∙ back.2,
+      );
       lanes_number = omega (arith, i.lanes_number, ap length lanes, length-append c.loop-posts.lanes.items (lane ∷ []), c.push.new.self.ok, c.loop-posts.lanes.ok, c.remove.ensures.len);
       ends_number = omega (arith, i.ends_number, ap length ends, length-append c.loop-posts.ends.items (end ∷ []), c.push-in-loop-posts.new.self.ok, c.loop-posts.ends.ok, c.remove.ensures.len);
       lanes_room = omega (arith, c.push.ensures.capacity, i.lanes_room);

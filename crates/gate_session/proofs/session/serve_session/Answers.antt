@@ -67,9 +67,9 @@ returns-clause-session g c =
     let each : EachTo WasServed posts served = each_at WasServed posts served long (subst (λ (l : List PostFacts). (k : ℕ) (d : PostFacts) → k < length l → WasServed (get_or l k d) (get_or served k d)) c.deref_mut.ensures.value c.serve_posts.ensures) in
     let whole = took_all served (drop (length served) posts) c.seat_lanes-seat.new.posts.len (long ∙ sym c.seat_lanes-seat.new.posts.ok.0) in
     let session : Session base all (map (λ (p : PostFacts). p.told) served) ends history = session_of desk base all posts served ends u.joined.0 seat history seated each
-        (u.ends ∙ ap (map (λ (p : PostFacts). p.end)) whole) (u.joined.1 ∙ ap (map (λ (p : PostFacts). p.seat)) whole) u.joined.2 u.joined.3
-        c.close.ensures.seen c.close.ensures.ended c.close.ensures.own c.close.ensures.no_others
-        (u.same.2 ∙ ap (λ k. k.number) left ∙ ap (λ k. k.number) first) (u.same.4 ∙ ap (λ k. k.mine) left ∙ ap (λ k. k.mine) first) in
+    (u.ends ∙ ap (map (λ (p : PostFacts). p.end)) whole) (u.joined.1 ∙ ap (map (λ (p : PostFacts). p.seat)) whole) u.joined.2 u.joined.3
+    c.close.ensures.seen c.close.ensures.ended c.close.ensures.own c.close.ensures.no_others
+    (u.same.2 ∙ ap (λ k. k.number) left ∙ ap (λ k. k.number) first) (u.same.4 ∙ ap (λ k. k.mine) left ∙ ap (λ k. k.mine) first) in
     let is_based : c.close.result.base ≡ base = some_same (sym c.close.ensures.base ∙ u.same.3 ∙ ap (λ k. k.base) left ∙ ap (λ k. k.base) first) in
     let tells : map (λ (p : PostFacts). p.told) served ≡ map told c.unseat_lanes-seat.new.lanes.items = ap (map (λ (p : PostFacts). p.told)) (sym whole) ∙ sym u.lanes in
     subst (λ b. Session b all (map told c.unseat_lanes-seat.new.lanes.items) ends history) (sym is_based) (subst (λ l. Session base all l ends history) tells session)

@@ -13,9 +13,9 @@ use crate::port::CountedPort;
 use backend_core::MemBackend;
 use gate_ports::{Archive, FreeGate, Lane, Means};
 use gateway_outside::{ListenFault, SocketPort, SystemClock, announce, begin_words, listen};
-use gw_base::{Clock as Moments, Memory, ReadAll, SplitMix, Text, read_all};
+use gw_base::{Clock as Moments, Memory, ReadAll, SplitMix, Text, read_all, write_all};
 use outside_core::{KeeperStart, Outside, OutsideFault};
-use std::alloc::Global;
+use std::alloc::{AllocError, Global};
 use std::fs::{self, Files};
 use std::io::Write;
 use std::marker::Model;
@@ -31,7 +31,8 @@ type SocketLane<'r, R> = Lane<
     FreeGate,
 >;
 
-/// The machine: its files, lanes over its sockets, and for each store a keeper in memory. It says on `log` where it listens.
+/// The machine: its files, lanes over its sockets, and for each store a keeper in memory. It says on `log` where it listens,
+/// and which file or port it could not have.
 /// It lets go of the keepers, the lanes and the histories that it is given.
 #[derive(Drop)]
 pub struct MachineOutside<'r, R, W: Write + Drop> {
@@ -72,15 +73,17 @@ impl<'r, R, W: Write + Drop> MachineOutside<'r, R, W> {
     {
         self.faults = self.faults.saturating_add(1);
     }
-}
 
-fn read_file<R: Files>(rt: &R, alloc: Global, name: &str, limit: usize) -> Result<Vec<u8>, ReadAll>
-    ensures within { IfOk result (λ v. length v.items ≤ limit) }
-{
-    let Ok(file) = fs::open(rt, name) else {
-        return Err(ReadAll::Fault);
-    };
-    read_all(alloc, &mut ReaderSource::new(file), limit)
+    // Says on the log what can't be done, and counts it as a fault. A line that is not written changes nothing else.
+    fn complain(&mut self, line: Result<String, AllocError>)
+        ensures after { self.new ≡ record self.old { faults = raised self.old.faults } }
+        ensures later { self.old.faults ≤ self.new.faults }
+    {
+        if let Ok(line) = line {
+            let _ = write_all(&mut self.log, line.as_bytes());
+        }
+        self.fail();
+    }
 }
 
 fn lane_of<'r, R: Clock>(
@@ -182,9 +185,16 @@ impl<
     ghost beside_tells = { λ a b same. (refl, refl, refl, refl, refl, ap (λ (o : MachineStand). o.keepers_out) same, ap (λ (o : MachineStand). o.lanes_out) same, ap (λ (o : MachineStand). o.faults) same) };
 
     fn file(&mut self, alloc: Global, name: &str, limit: usize) -> Result<Vec<u8>, ReadAll> {
-        let read = read_file(self.rt, alloc, name, limit);
+        let file = match fs::open(self.rt, name) {
+            Ok(file) => file,
+            Err(error) => {
+                self.complain(format!(in alloc; "cannot open {name}: {error}\n"));
+                return Err(ReadAll::Fault);
+            }
+        };
+        let read = read_all(alloc, &mut ReaderSource::new(file), limit);
         if matches!(&read, Err(ReadAll::Fault)) {
-            self.fail();
+            self.complain(format!(in alloc; "cannot read {name}\n"));
         }
         read
     }
@@ -211,7 +221,7 @@ impl<
         let ports = match listen(self.rt, alloc, port, n) {
             Ok(ports) => ports,
             Err(ListenFault::Port) => {
-                self.fail();
+                self.complain(format!(in alloc; "cannot listen at 127.0.0.1:{port}\n"));
                 return Err(OutsideFault::Failed);
             }
             Err(ListenFault::Memory) => return Err(OutsideFault::Memory),

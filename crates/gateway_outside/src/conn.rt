@@ -6,11 +6,16 @@ use gate_ports::Conn;
 use gw_base::{Failed, Sink, Source, WriteStop};
 use std::io::{self, Read, Write};
 use std::marker::Model;
-use std::net::TcpStream;
+use std::net::{Shutdown, TcpStream};
 use std::time::{Clock, Duration, Instant};
 
 // How many seconds a peer may take for a whole message, and a write for a piece.
 const PATIENCE: u64 = 30;
+
+// For how many milliseconds, where a connection ends, what its peer still sends is dropped, and at most how many pieces of it.
+const FAREWELL: u64 = 500;
+
+const MOST_DROPPED: u32 = 4096;
 
 /// A connection over a socket. From its acceptance, or from the last byte written, its peer has 30 seconds for the whole
 /// next message, however many reads that takes: past them a read fails. A write fails after 30 seconds, and where it takes
@@ -51,6 +56,23 @@ impl<'r, R: Clock> SocketConn<'r, R> {
             read_faults: 0,
             write_faults: 0,
         })
+    }
+
+    // Ends the connection. Its peer is told that nothing more comes, and what it still sends is dropped for a short time: a
+    // connection that is closed over bytes that were not read is reset, and the peer might lose the last answer (RFC 9112,
+    // section 9.6).
+    pub(crate) fn end(self) -> io::Result<()> {
+        self.stream.shutdown(Shutdown::Write)?;
+        let since = Instant::now(self.rt)?;
+        let mut dropped = [0; 4096];
+        for _ in 0..MOST_DROPPED {
+            let left = Duration::from_millis(FAREWELL).saturating_sub(since.elapsed(self.rt)?);
+            self.stream.set_read_timeout(Some(left))?;
+            if (&self.stream).read(&mut dropped)? == 0 {
+                return Ok(());
+            }
+        }
+        Ok(())
     }
 
     // A read that ends where the time for the message does. Where nothing is left of it the socket refuses the limit.

@@ -14,7 +14,7 @@
 //!     Ok(Accepted::Conn(mut conn)) => {
 //!         let count = conn.read(&mut buf)?;                // Ok(0) where the peer sends no more
 //!         write_all(&mut conn, b"HTTP/1.1 200 OK\r\n\r\n")?;
-//!         ports[0].done(conn);                             // and the connection is closed
+//!         ports[0].done(conn);                             // and the connection is closed, with what its peer still sends dropped
 //!     }
 //!     Ok(Accepted::NotYet) => {}                           // after 2 milliseconds
 //!     Ok(Accepted::Ended) => {}                            // one of the four ports was shut

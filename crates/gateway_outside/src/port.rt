@@ -103,7 +103,9 @@ impl<'r, R: Clock> Port for SocketPort<'r, R> {
         self.door.value().shut();
     }
 
-    fn done(&mut self, _link: SocketConn<'r, R>) {
+    fn done(&mut self, link: SocketConn<'r, R>) {
+        // Where the peer is gone already, nothing is left to be told.
+        let _ = link.end();
         self.out = false;
     }
 }

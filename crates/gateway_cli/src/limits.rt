@@ -1,3 +1,4 @@
+// The limits of what the program holds.
 use book_rules::Limits;
 
 /// The limits of a session.

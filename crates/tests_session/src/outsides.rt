@@ -67,6 +67,14 @@ fn lane(alloc: Global, looks: &[u32]) -> Result<MemLane, Fail>
     })
 }
 
+fn lanes(alloc: Global, looks: &[u32]) -> Result<Vec<MemLane>, Fail>
+    ensures { IfOk result (λ lanes. All IsUnusedLane lanes.items) }
+{
+    let first = lane(alloc, looks)?;
+    let second = lane(alloc, looks)?;
+    Ok(vec![in alloc; first, second]?)
+}
+
 pub(crate) fn outside(alloc: Global, plan: &Plan) -> Result<MemOut, Fail> {
     let store = MemStore::new(
         text(alloc, "a")?,
@@ -74,9 +82,7 @@ pub(crate) fn outside(alloc: Global, plan: &Plan) -> Result<MemOut, Fail> {
         Vec::from_slice(alloc, plan.keeps)?,
     );
     let stores = vec![in alloc; store]?;
-    let mut lanes = Vec::new(alloc);
-    lanes.push(lane(alloc, plan.looks)?)?;
-    lanes.push(lane(alloc, plan.looks)?)?;
+    let lanes = lanes(alloc, plan.looks)?;
     let fails = Vec::from_slice(alloc, plan.fails)?;
     Ok(MemOutside::new(Vec::new(alloc), stores, lanes, fails))
 }

@@ -4,9 +4,10 @@
 Usage: tests/live.py [PROGRAM]; the program is built by `rt run` in crates/gateway.
 
 Prints `ok NAME` or `FAILED NAME: why` for each test, and last `N passed, N failed`. Its status is 0 only where none failed. Each wait
-has a limit of its own, so it ends whatever the program does. The store is empty, so every call is answered 403; what is expected is
-said to the byte by docs/HTTP.md and docs/SCRIPT.md. Nothing is sent that the server would leave unread where it closes a connection:
-the system would then reset it, and the answer might be lost."""
+has a limit of its own, so it ends whatever the program does. The store is empty, so every call is answered 403 until an API is put over
+HTTP, by a program of its own that is shut down over HTTP, too; what is expected is said to the byte by docs/HTTP.md, docs/ADMIN.md and
+docs/SCRIPT.md. Nothing is sent that the server would leave unread where it closes a connection: the system would then reset it, and the
+answer might be lost."""
 import os, queue, signal, socket, subprocess, sys, tempfile, threading, time
 
 TOP = os.path.dirname(os.path.dirname(os.path.abspath(__file__)))
@@ -30,6 +31,24 @@ def own_answer(status, cause, message, closes=False, head_only=False):
 def edge_answer(status):
     """The bytes of an answer to what is no message."""
     return b"HTTP/1.1 %s\r\nconnection: close\r\ncontent-length: 0\r\n\r\n" % status
+
+
+def json_answer(status, body, closes=False):
+    """The bytes of an answer of the administration."""
+    close = b"connection: close\r\n" if closes else b""
+    return b"HTTP/1.1 %s\r\ncontent-type: application/json\r\n%scontent-length: %d\r\n\r\n%s" % (status, close, len(body), body)
+
+
+def text_answer(body, closes=False):
+    """The bytes of a text API's answer."""
+    close = b"connection: close\r\n" if closes else b""
+    return b"HTTP/1.1 200 OK\r\ncontent-type: text/plain\r\n%scontent-length: %d\r\n\r\n%s" % (close, len(body), body)
+
+
+def request(verb, path, body=b"", last=False):
+    close = b"connection: close\r\n" if last else b""
+    length = b"content-length: %d\r\n" % len(body) if body else b""
+    return b"%s %s HTTP/1.1\r\nhost: localhost\r\n%s%s\r\n%s" % (verb, path, close, length, body)
 
 
 def no_stage(**kind):
@@ -138,6 +157,13 @@ class Server:
             return lines.get(timeout=WAIT)
         except queue.Empty:
             raise Wrong(f"no line on standard error in {WAIT} seconds")
+
+    def ends_by_itself(self):
+        """Waits until it ends: its status, and what it printed."""
+        status = self.process.wait(WAIT)
+        self.process = None
+        with open(f"{self.room}/output", "rb") as output:
+            return status, output.read()
 
     def end(self):
         """Ends it, and gives what it printed."""
@@ -293,6 +319,72 @@ def a_second_program_at_the_port_ends_with_3(server):
         client.has_last("the first program's answer", no_stage(closes=True))
 
 
+DONE = json_answer(b"200 OK", b'{"reply":"done"}')
+
+# What an API is made by, each request with its answer: all of them change the tables.
+MADE = [
+    (request(b"PUT", b"/_admin/apis/hello/text", b"Hi $input.body!"), DONE),
+    (request(b"POST", b"/_admin/apis/hello/deployments"), json_answer(b"200 OK", b'{"reply":"deployed 1"}')),
+    (request(b"PUT", b"/_admin/apis/hello/stages/v1", b"1 env=test"), DONE),
+]
+# What the book refuses.
+REFUSED = [
+    (request(b"POST", b"/_admin/apis/none/deployments"), b'{"reply":"refused NoApi"}'),
+    (request(b"PUT", b"/_admin/apis/hello/stages/v1", b"2"), b'{"reply":"refused NoDeployment"}'),
+    (request(b"PUT", b"/_admin/apis/%68ello/text", b"Hi"), b'{"reply":"refused BadName"}'),
+]
+# What is answered before the book is asked.
+UNASKED = [
+    (request(b"GET", b"/_admin/apis/hello"), b"404 Not Found", b'{"refused":"NoRoute"}'),
+    (request(b"PUT", b"/_admin/apis/hello/text/", b"Hi"), b"404 Not Found", b'{"refused":"NoRoute"}'),
+    (request(b"PUT", b"/_admin/apis/hello/stages/v1", b"one"), b"400 Bad Request", b'{"refused":"BadRecord"}'),
+    (request(b"PUT", b"/_admin/apis/hello/text", b"#if($a)"), b"400 Bad Request", b'{"refused":"Unclosed(0) at /text"}'),
+    (request(b"PUT", b"/_admin/apis/doc", b'{"version":1,"bogus":1}'), b"400 Bad Request", b'{"refused":"Unknown(bogus) at /bogus"}'),
+]
+TOO_LARGE = b"PUT /_admin/apis/hello HTTP/1.1\r\nhost: localhost\r\ncontent-length: 10485761\r\n\r\n"
+CLIENTS = 4
+
+
+def an_api_is_made_called_and_shut_down_over_http(server):
+    """One program: an API is put, deployed, staged and called; each refusal comes by its body; and a shutdown ends the program with its line."""
+    with tempfile.TemporaryDirectory() as room:
+        other = Server(server.program, room)
+        try:
+            other.start()
+            made_called_and_shut_down(other)
+        finally:
+            other.end()
+
+
+def made_called_and_shut_down(other):
+    with Client(other.port) as client:
+        for asked, answer in MADE:
+            client.calls(f"to {asked[:60]}", asked, answer)
+        for asked, body in REFUSED:
+            client.calls(f"to {asked[:60]}", asked, json_answer(b"409 Conflict", body))
+        for asked, status, body in UNASKED:
+            client.calls(f"to {asked[:60]}", asked, json_answer(status, body))
+        client.calls("the call", CALL, text_answer(b"Hi Ann!"))
+
+    def work(_):
+        with Client(other.port) as client:
+            client.send(LAST)
+            client.has_last("a call beside others", text_answer(b"Hi Ann!", closes=True))
+
+    at_once(CLIENTS, work)
+    with Client(other.port) as client:
+        client.send(TOO_LARGE)
+        client.has_last("a body that is too large", json_answer(b"413 Payload Too Large", b'{"refused":"TooLarge"}', closes=True))
+    with Client(other.port) as client:
+        client.send(request(b"POST", b"/_admin/shutdown"))
+        client.has_last("the shutdown", json_answer(b"200 OK", b'{"reply":"done"}', closes=True))
+    calls = 1 + CLIENTS
+    asked = len(MADE) + len(REFUSED) + 1
+    entries = 2 * (calls + asked) + len(UNASKED) + 1
+    line = b"session entries=%d calls=%d admitted=0 throttled=0 quota=0 notkept=0\n" % (entries, calls)
+    expect("status and output", other.ends_by_itself(), (0, line))
+
+
 def words_that_are_no_command_end_with_2(server):
     for words in ((), ("bogus",), ("serve",), ("serve", "memory", "1"), ("serve", "memory", "port", "4")):
         expect(f"status and output of {words}", server.run(*words), (2, b"usage\n"))
@@ -316,6 +408,7 @@ TESTS = [
     a_body_that_is_too_large_is_answered_413,
     clients_that_say_nothing_keep_their_own_lane_alone,
     a_second_program_at_the_port_ends_with_3,
+    an_api_is_made_called_and_shut_down_over_http,
     words_that_are_no_command_end_with_2,
     the_program_still_runs,
 ]

@@ -15,6 +15,7 @@ use Rattle.gate_walk.specs.Walk.{Call, asks, answers}
 use Rattle.gate_walk.specs.declared.ended.SessionFull.{SessionFull as Numbers}
 use Rattle.gate_walk.proofs.Standing.{entries_both, stays, stand_both, made_both, closing_both}
 use Rattle.turn_desk.specs.Calls.{SeatFacts, IsSameSeat, HasItsOwn, Taken, NotTaken}
+use Rattle.turn_desk.specs.Entries.{HasNoneFrom}
 
 abbrev pub Seats : Type 0
 Seats = SeatFacts Entry Base
@@ -27,7 +28,7 @@ same_at k = (refl, refl, refl, refl, refl, refl)
 
 -- nothing was done
 pub did_nothing : (k : Seats) → HasItsOwn seat_of k → Did k k []
-did_nothing k own = record { same = same_at k; stand = none k.base; mine = sym (append-nil k.mine); own = own }
+did_nothing k own = record { same = same_at k; stand = none k.base; mine = sym (append-nil k.mine); own = own; none_from = λ h. h }
   where
     none : (base : Option Base) → IfSome base (λ b. Stand b k.number k.seen [] k.seen)
     none None = tt
@@ -47,6 +48,7 @@ did_both k l m acts next a b =
       mine = b.mine ∙ ap (λ x. x ++ made_by l.number next) a.mine ∙ append_assoc k.mine (made_by k.number acts) (made_by l.number next)
           ∙ ap (λ n. k.mine ++ (made_by k.number acts ++ made_by n next)) a.same.2 ∙ ap (λ x. k.mine ++ x) (sym (made_both k.number acts next));
       own = b.own;
+      none_from = λ h. b.none_from (a.none_from h);
     }
   where
     stand : (base : Option Base) → IfSome base (λ b. Stand b k.number k.seen acts l.seen) → IfSome base (λ b. Stand b k.number l.seen next m.seen) → IfSome base (λ b. Stand b k.number k.seen (acts ++ next) m.seen)
@@ -67,9 +69,9 @@ between k l more own now same seen mine =
     (sym mine ∙ now ∙ ap (λ n. entries_of n l.seen) same ∙ ap (entries_of k.number) seen ∙ entries_both k.number k.seen more ∙ ap (λ x. x ++ entries_of k.number more) (sym own))
 
 -- an event was refused, since the session is full, or memory was wanting
-pub did_refuse : (k l : Seats) (event : Event) (full : Numbers) → HasItsOwn seat_of k → HasItsOwn seat_of l → IsSameSeat k l
+pub did_refuse : (k l : Seats) (event : Event) (full : Numbers) → HasItsOwn seat_of k → HasItsOwn seat_of l → HasNoneFrom seat_of l.seats l.seen → IsSameSeat k l
     → NotTaken Refuses k l event (step.SessionFull full.entries full.bytes) → Did k l (refused event full ∷ [])
-did_refuse k l event full own now same n =
+did_refuse k l event full own now apart same n =
     let free = between k l n.after.0 own now same.2 (sym n.after.1) n.mine in
     record {
       same = same;
@@ -77,16 +79,18 @@ did_refuse k l event full own now same n =
           (l.seen, (n.after.0, sym n.after.1, free), (n.fault.0, n.fault.1, n.fault.2), stays k.number l.seen);
       mine = n.mine ∙ sym (append-nil k.mine);
       own = now;
+      none_from = λ _. apart;
     }
 
-pub did_lack : (k l : Seats) (event : Event) → HasItsOwn seat_of k → HasItsOwn seat_of l → IsSameSeat k l → NotTaken Refuses k l event step.Memory → Did k l []
-did_lack k l event own now same n =
+pub did_lack : (k l : Seats) (event : Event) → HasItsOwn seat_of k → HasItsOwn seat_of l → HasNoneFrom seat_of l.seats l.seen → IsSameSeat k l → NotTaken Refuses k l event step.Memory → Did k l []
+did_lack k l event own now apart same n =
     let free = between k l n.after.0 own now same.2 (sym n.after.1) n.mine in
     record {
       same = same;
       stand = subst (λ x. IfSome x (λ base. Stand base k.number k.seen [] l.seen)) (sym n.based) (n.after.0, sym n.after.1, free);
       mine = n.mine ∙ sym (append-nil k.mine);
       own = now;
+      none_from = λ _. apart;
     }
 
 -- an event was taken
@@ -103,9 +107,9 @@ same_end mine (y ∷ ys) x e = absurd (longer (sym (length-append mine (x ∷ []
     longer : length mine + length (x ∷ []) ≡ length mine + length (y ∷ (ys ++ x ∷ [])) → length (ys ++ x ∷ []) ≡ length ys + length (x ∷ []) → ⊥
     longer h l = omega (arith, h, l)
 
-pub did_take : (k l : Seats) (event : Event) (reply : Reply) → HasItsOwn seat_of k → HasItsOwn seat_of l → IsSameSeat k l
+pub did_take : (k l : Seats) (event : Event) (reply : Reply) → HasItsOwn seat_of k → HasItsOwn seat_of l → HasNoneFrom seat_of l.seats l.seen → IsSameSeat k l
     → Taken seat_of event_of Answers k l event reply → (kept : Bool) × Did k l (took event kept reply ∷ [])
-did_take k l event reply own now same t =
+did_take k l event reply own now apart same t =
     let n = k.number in
     let kept = t.entry.kept in
     let e : Entry = entry_of n event kept in
@@ -125,6 +129,7 @@ did_take k l event reply own now same t =
             (t.before, (more, sym t.after.1, free), subst (λ x. Answers t.base t.before x reply) is t.reply, subst (λ x. WentOn n (t.before ++ e ∷ []) x) (sym seen) (stays n (t.before ++ e ∷ [])));
         mine = mine;
         own = now;
+        none_from = λ _. apart;
       },
     )
 
@@ -167,12 +172,12 @@ goes_last k l event reply next Memory closing first tells gives =
     (took event first.0 reply ∷ [], first.1, (next reply, (refl, refl)), tells ∙ or_none (leaves_closing event reply))
 
 -- a step was refused
-pub goes_nowhere : (k l : Seats) (event : Event) (next : Reply → Call) (fault : StepFault) → HasItsOwn seat_of k → HasItsOwn seat_of l → IsSameSeat k l → NotTaken Refuses k l event fault
+pub goes_nowhere : (k l : Seats) (event : Event) (next : Reply → Call) (fault : StepFault) → HasItsOwn seat_of k → HasItsOwn seat_of l → HasNoneFrom seat_of l.seats l.seen → IsSameSeat k l → NotTaken Refuses k l event fault
     → (acts : List Act) × Did k l acts × Reaches (asks event next) acts (called_by fault) × (false ≡ tell_closing acts)
-goes_nowhere k l event next (step.SessionFull entries bytes) own now same n =
+goes_nowhere k l event next (step.SessionFull entries bytes) own now apart same n =
     let full : Numbers = record { entries = entries; bytes = bytes } in
-    (refused event full ∷ [], did_refuse k l event full own now same n, (asks event next, (refl, refl, refl), [], event, refl), refl)
-goes_nowhere k l event next step.Memory own now same n = ([], did_lack k l event own now same n, (asks event next, refl), refl)
+    (refused event full ∷ [], did_refuse k l event full own now apart same n, (asks event next, (refl, refl, refl), [], event, refl), refl)
+goes_nowhere k l event next step.Memory own now apart same n = ([], did_lack k l event own now apart same n, (asks event next, refl), refl)
 
 -- memory was wanting before anything was done
 pub goes_not : (k : Seats) (call : Call) → HasItsOwn seat_of k → (acts : List Act) × Did k k acts × Reaches call acts Memory × (false ≡ tell_closing acts)

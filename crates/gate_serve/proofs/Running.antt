@@ -1,5 +1,5 @@
 -- A connection that is being served, and its ways out.
-use Rattle.std.proofs.Common.{◌≡◌, ℕ, ◌+◌, ◌≤◌, min, ◌-◌, ◌^◌, Bool, true, false, ◌||◌, List, [], ◌∷◌, ◌++◌, Option, Some, None, Result, Ok, Err, ap, sym, ◌∙◌, append-nil, subst, refl, arith}
+use Rattle.std.proofs.Common.{◌≡◌, ℕ, ◌+◌, ◌≤◌, min, ◌-◌, ◌^◌, Bool, true, false, ◌||◌, List, [], ◌∷◌, ◌++◌, Option, Some, None, Result, Ok, Err, inl, inr, ap, sym, ◌∙◌, append-nil, subst, refl, arith}
 use Rattle.std.specs.Prelude.{flat_map}
 use Rattle.std.specs.Io.KnownBytes.{Appends}
 use Rattle.std.proofs.KnownBytes.{Appends-nil}
@@ -12,8 +12,8 @@ use Rattle.gate_serve.specs.Serving.{Did, GoesOnBy, Reaches, seat_of, stopped_by
 use Rattle.gate_serve.specs.declared.called.Called.TheVariants as called
 use Rattle.gate_serve.proofs.Doing.{Seats, did_nothing, did_both}
 use Rattle.gate_walk.specs.Acts.{Act, refused, Goes, sent_by, given_to, tell_closing}
-use Rattle.gate_walk.specs.Ends.{EndsWith}
-use Rattle.gate_walk.specs.Stories.{Turn, Hand, Story, IsFrontOf, Tells, acts_of}
+use Rattle.gate_walk.specs.Ends.{EndsWith, EndsFull}
+use Rattle.gate_walk.specs.Stories.{Turn, Hand, Story, IsBusy, IsFrontOf, Tells, acts_of}
 use Rattle.gate_walk.specs.Walk.{Call, asks, sends, answers, walk}
 use Rattle.gate_walk.specs.declared.ended.Ended.{Ended}
 use Rattle.gate_walk.specs.declared.ended.Ended.TheVariants.{Closed, WriteFault, SessionFull, Memory}
@@ -50,8 +50,8 @@ pub runs_first : (k : Seats) (moment word : Option ℕ) (left written : Option (
 runs_first k moment word left written own = record { turns = []; did = did_nothing k own; said = starts moment word left written; quiet = refl; unsent = refl; ungiven = refl }
 
 -- what a connection came to: its story, in which no backend was asked
-abbrev pub ComesTo : Seats → Seats → Option ℕ → Option ℕ → ConnTold → ConnTold → Ended → Bool → Type 0
-ComesTo before now moment word old new ended closing =
+abbrev pub CameTo : Seats → Seats → Option ℕ → Option ℕ → ConnTold → ConnTold → Ended → Bool → Type 0
+CameTo before now moment word old new ended closing =
     (story : Story) × Did before now (acts_of story) × (sent_by (acts_of story) ≡ []) × (given_to (acts_of story) ≡ []) × Tells moment word old new ended story × (closing ≡ tell_closing (acts_of story))
 
 pub goes_on_by_none : {A : Type 0} (told : Option (List A)) (more : List A) → more ≡ [] → GoesOnBy told told more
@@ -69,6 +69,12 @@ nothing_of (asks event next) = refl
 nothing_of (sends request next) = refl
 nothing_of (answers cause bytes closes) = (bytes, refl)
 
+-- a full session, by whatever else a failed write shows
+pub full_from : {P Q : Type 0} (leads : P → Q) (full : Full) (written so_far : Option (List ℕ)) (result : Ended) → EndsFull P full written so_far result → EndsFull Q full written so_far result
+full_from leads full written so_far result (inl (is, inl all)) = inl (is, inl all)
+full_from leads full written so_far result (inl (is, inr (failed, front))) = inl (is, inr (leads failed, front))
+full_from leads full written so_far result (inr lack) = inr lack
+
 module _ {before now : Seats} {moment word : Option ℕ} {old at mid new : ConnTold} {held held' : List ℕ} {number : ℕ}
     (r : Running before now moment word old.left old.written held at.left at.written number)
     (look : Looked moment word old at mid new held held' number r.turns) where
@@ -83,7 +89,7 @@ module _ {before now : Seats} {moment word : Option ℕ} {old at mid new : ConnT
   )
 
   -- nothing more was done
-  no_more : (ended : Ended) → Tells moment word old new ended (no_hand r.turns) → ComesTo before now moment word old new ended false
+  no_more : (ended : Ended) → Tells moment word old new ended (no_hand r.turns) → CameTo before now moment word old new ended false
   no_more ended tells =
       let is : acts_of (no_hand r.turns) ≡ acts_in_all r.turns = append-nil (acts_in_all r.turns) in (
         no_hand r.turns,
@@ -95,34 +101,47 @@ module _ {before now : Seats} {moment word : Option ℕ} {old at mid new : ConnT
       )
 
   pub comes_to_fault : (fault : EdgeFault) (result : Ended) → Over Comes held at.left held' mid.left (Err fault) → EndsWith fault mid.written new.written result
-      → (result ≡ WriteFault → Rose old.write_faults new.write_faults) → (fault ≡ edge.ReadFault → Rose old.read_faults new.read_faults) → ComesTo before now moment word old new result false
+      → (result ≡ WriteFault → Rose old.write_faults new.write_faults) → (fault ≡ edge.ReadFault → Rose old.read_faults new.read_faults) → CameTo before now moment word old new result false
   comes_to_fault fault result comes ends rose risen = no_more result (faulted_then look fault result comes ends rose risen)
 
-  pub comes_to_end : Over Comes held at.left held' mid.left (Ok End) → Appends mid.written new.written [] → ComesTo before now moment word old new Closed false
+  pub comes_to_end : Over Comes held at.left held' mid.left (Ok End) → Appends mid.written new.written [] → CameTo before now moment word old new Closed false
   comes_to_end comes wrote = no_more Closed (ended_then look comes wrote)
 
   -- a message was found, and these acts were done of it
   module _ (next : Seats) (m : Message) (acts : List Act) (closing : Bool) (found : Found moment word at mid held held' number m) (did : Did now next acts) (tells : closing ≡ tell_closing acts) where
-    in_hand : (call : Call) (ended : Ended) → Goes (walk m) acts call → Tells moment word old new ended (with_hand r.turns (record { message = m; acts = acts; next = call })) → ComesTo before next moment word old new ended closing
+    in_hand : (call : Call) (ended : Ended) → Goes (walk m) acts call → Tells moment word old new ended (with_hand r.turns (record { message = m; acts = acts; next = call })) → CameTo before next moment word old new ended closing
     in_hand call ended goes told =
         let hand : Hand = record { message = m; acts = acts; next = call } in
         let none = none_is_sent m acts call goes in
         let all = then next acts (acts_of (with_hand r.turns hand)) closing refl did none.0 none.1 tells in
         (with_hand r.turns hand, all.0, all.1, all.2, told, all.3)
 
-    pub comes_to_full : (full : Full) → Reaches (walk m) acts (called.Full full) → AppendsFront mid.written new.written (edge_bytes 503) → ComesTo before next moment word old new (SessionFull full.entries full.bytes) closing
-    comes_to_full full reach wrote =
+    -- the session was full: its answer at the edge was written, or a front of it
+    full_with : (full : Full) (part : List ℕ) → Reaches (walk m) acts (called.Full full) → Appends mid.written new.written part → IsBusy (Rose old.write_faults new.write_faults) part
+        → CameTo before next moment word old new (SessionFull full.entries full.bytes) closing
+    full_with full part reach wrote busy =
         let hand : Hand = record { message = m; acts = acts; next = reach.0 } in
-        in_hand reach.0 (SessionFull full.entries full.bytes) reach.1 (full_then look hand full found reach.1 wrote (reach.2, reach.3, reach.4))
+        in_hand reach.0 (SessionFull full.entries full.bytes) reach.1 (full_then look hand full part found reach.1 wrote busy (reach.2, reach.3, reach.4))
 
-    pub comes_to_lack : Reaches (walk m) acts called.Memory → Appends mid.written new.written [] → ComesTo before next moment word old new Memory closing
+    pub comes_to_full : (full : Full) (result : Ended) → Reaches (walk m) acts (called.Full full) → EndsFull (Rose old.write_faults new.write_faults) full mid.written new.written result
+        → CameTo before next moment word old new result closing
+    comes_to_full full result reach (inl (is, inl wrote)) =
+        subst (λ e. CameTo before next moment word old new e closing) (sym is) (full_with full (edge_bytes 503) reach wrote (inl refl))
+    comes_to_full full result reach (inl (is, inr (rose, wrote))) =
+        subst (λ e. CameTo before next moment word old new e closing) (sym is) (full_with full wrote.1.0 reach wrote.1.2 (inr (rose, (wrote.0, wrote.1.1))))
+    comes_to_full full result reach (inr (is, wrote)) =
+        let hand : Hand = record { message = m; acts = acts; next = reach.0 } in
+        subst (λ e. CameTo before next moment word old new e closing) (sym is)
+        (in_hand reach.0 Memory reach.1 (lacks_then look hand wrote.1.0 found reach.1 wrote.1.2 (inr (full.entries, full.bytes, (reach.2, reach.3, reach.4), (wrote.0, wrote.1.1)))))
+
+    pub comes_to_lack : Reaches (walk m) acts called.Memory → Appends mid.written new.written [] → CameTo before next moment word old new Memory closing
     comes_to_lack reach wrote =
         let hand : Hand = record { message = m; acts = acts; next = reach.0 } in
-        in_hand reach.0 Memory reach.1 (lacks_then look hand [] found reach.1 wrote (nothing_of reach.0))
+        in_hand reach.0 Memory reach.1 (lacks_then look hand [] found reach.1 wrote (inl (nothing_of reach.0)))
 
     -- it was answered
     module _ (cause : Option Kind) (bytes : List ℕ) (closes : Bool) (goes : Goes (walk m) acts (answers cause bytes closes)) where
-      whole : (ended : Ended) → Tells moment word old new ended (no_hand (r.turns ++ record { message = m; acts = acts; cause = cause; answer = bytes; closes = closes } ∷ [])) → ComesTo before next moment word old new ended closing
+      whole : (ended : Ended) → Tells moment word old new ended (no_hand (r.turns ++ record { message = m; acts = acts; cause = cause; answer = bytes; closes = closes } ∷ [])) → CameTo before next moment word old new ended closing
       whole ended told =
           let turn : Turn = record { message = m; acts = acts; cause = cause; answer = bytes; closes = closes } in
           let none = none_is_sent m acts (answers cause bytes closes) goes in
@@ -130,18 +149,18 @@ module _ {before now : Seats} {moment word : Option ℕ} {old at mid new : ConnT
           let all = then next acts (acts_of (no_hand (r.turns ++ turn ∷ []))) closing is did none.0 none.1 tells in
           (no_hand (r.turns ++ turn ∷ []), all.0, all.1, all.2, told, all.3)
 
-      pub comes_to_close : Appends mid.written new.written bytes → closes ≡ true → ComesTo before next moment word old new Closed closing
+      pub comes_to_close : Appends mid.written new.written bytes → closes ≡ true → CameTo before next moment word old new Closed closing
       comes_to_close wrote e = whole Closed (closes_then look (record { message = m; acts = acts; cause = cause; answer = bytes; closes = closes }) found goes wrote e)
 
       pub comes_to_stop : (why : WriteStop) (result : Ended) → result ≡ stopped_by why → AppendsFront mid.written new.written bytes → (why ≡ stop.Failed → Rose old.write_faults new.write_faults)
-          → ComesTo before next moment word old new result closing
+          → CameTo before next moment word old new result closing
       comes_to_stop stop.Failed result is wrote rose =
-          subst (λ e. ComesTo before next moment word old new e closing) (sym is)
+          subst (λ e. CameTo before next moment word old new e closing) (sym is)
           (whole WriteFault (fails_then look (record { message = m; acts = acts; cause = cause; answer = bytes; closes = closes }) found goes wrote (rose refl)))
       comes_to_stop stop.Memory result is wrote rose =
           let hand : Hand = record { message = m; acts = acts; next = answers cause bytes closes } in
-          subst (λ e. ComesTo before next moment word old new e closing) (sym is)
-          (in_hand (answers cause bytes closes) Memory goes (lacks_then look hand wrote.1.0 found goes wrote.1.2 (wrote.0, wrote.1.1)))
+          subst (λ e. CameTo before next moment word old new e closing) (sym is)
+          (in_hand (answers cause bytes closes) Memory goes (lacks_then look hand wrote.1.0 found goes wrote.1.2 (inl (wrote.0, wrote.1.1))))
 
       -- and the connection goes on
       pub runs_on : Appends mid.written new.written bytes → closes ≡ false → Running before next moment word old.left old.written held' new.left new.written (number + 1)

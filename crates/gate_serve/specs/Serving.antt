@@ -24,6 +24,7 @@ use Rattle.gw_base.specs.declared.outside.WriteStop.TheVariants as stop
 use Rattle.http_framing.specs.declared.fault.EdgeFault.{EdgeFault}
 use Rattle.http_framing.specs.declared.fault.EdgeFault.TheVariants as edge
 use Rattle.turn_desk.specs.Calls.{SeatFacts, IsSameSeat, HasItsOwn}
+use Rattle.turn_desk.specs.Entries.{HasNoneFrom}
 
 abbrev pub seat_of : Entry → ℕ
 seat_of e = e.seat
@@ -37,6 +38,8 @@ pub record Did (before now : SeatFacts Entry Base) (acts : List Act) : Type 0 wh
   -- its entries are those that it had and those that they made, and all that the history has of it.
   pub mine : now.mine ≡ before.mine ++ made_by before.number acts
   pub own : HasItsOwn seat_of now
+  -- No number that the desk does not have gets an entry.
+  pub none_from : HasNoneFrom seat_of before.seats before.seen → HasNoneFrom seat_of now.seats now.seen
 
 -- these acts lead to here
 abbrev pub Reaches : Call → List Act → Called → Type 0

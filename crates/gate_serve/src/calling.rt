@@ -3,19 +3,20 @@ ghost use Rattle.std.specs.Prelude.{◌≡◌, List, IfOk};
 ghost use Rattle.book_rules.specs.Times.{IsInTime};
 ghost use Rattle.call_facts.specs.Target.{target_of};
 ghost use Rattle.gate_walk.specs.Acts.{Act, tell_closing};
-ghost use Rattle.gate_walk.specs.Walk.{walk, leaves, entered, answered, is_head as is_head_of, closing_by, closes_by};
-ghost use Rattle.gate_serve.specs.Serving.{Did, Reaches, Gives, seat_of, enter_at};
+ghost use Rattle.gate_walk.specs.Walk.{walk, walk_to, entered};
+ghost use Rattle.gate_serve.specs.Serving.{Did, Reaches, seat_of, enter_at};
 ghost use Rattle.turn_desk.specs.Calls.{HasItsOwn};
 
+use crate::administering::administer;
 use crate::called::{Called, refusal};
+use crate::leaving::leave;
+use admin_routes::is_admin;
 use book_core::Book;
 use book_rules::{Event, Reply};
-use call_facts::{Request, Target};
-use gate_walk::{Message, answer_for, closes};
-use gw_base::{Bytes, Memory};
-use http_edge::spell_answer;
+use call_facts::Target;
+use gate_walk::{Message, answer_for};
+use gw_base::Memory;
 use keeper_core::Keeper;
-use method_flow::Made;
 use std::alloc::Global;
 use std::sync::Wait;
 use turn_desk::{Desk, Seat};
@@ -30,71 +31,6 @@ fn enter_of(alloc: Global, message: &Message, target: &Target) -> Result<Event, 
         api: target.api.copy(alloc)?,
         stage: target.stage.copy(alloc)?,
     })
-}
-
-fn is_head(request: &Request) -> bool
-    ensures { result ≡ is_head_of request.now }
-{
-    request.method.as_str() == "HEAD"
-}
-
-// Whether a reply tells that the session is closing.
-fn tells_closing(reply: &Reply) -> bool
-    ensures { result ≡ closing_by reply.now }
-{
-    match reply {
-        Reply::Left { closing } => *closing,
-        _ => false,
-    }
-}
-
-// Whether the connection closes behind a message that left with this reply.
-fn closes_behind(alloc: Global, message: &Message, reply: &Reply) -> Result<bool, Memory>
-    ensures { IfOk result (λ closing. closing ≡ closes_by message.now reply.now) }
-{
-    let last = closes(alloc, message.number, message.too_large, &message.request)?;
-    Ok(last || tells_closing(reply))
-}
-
-// The answer, behind which the connection closes or stays open, once the message has left.
-fn answer(alloc: Global, message: &Message, made: &Made, reply: &Reply) -> Result<Called, Memory>
-    ensures { IfOk result (λ called. Gives (answered message.now made.now reply.now) called) }
-{
-    let closes = closes_behind(alloc, message, reply)?;
-    let bytes = spell_answer(alloc, &made.answer, is_head(&message.request), closes)?;
-    Ok(Called::Answered {
-        cause: made.cause,
-        bytes: Bytes::of(bytes),
-        closes,
-    })
-}
-
-// Lets a message with this answer leave.
-fn leave<R: Wait, K: Keeper>(
-    rt: &R,
-    alloc: Global,
-    desk: &Desk<Book<K>>,
-    seat: Seat<Book<K>>,
-    message: &Message,
-    made: &Made,
-) -> (Seat<Book<K>>, Called, bool)
-    requires desk { seat.desk ≡ desk.now }
-    requires own { HasItsOwn seat_of seat }
-    ensures { (acts : List Act) × Did seat result.0 acts × Reaches (leaves message.now made.now) acts result.1 × (result.2 ≡ tell_closing acts) }
-{
-    let event = Event::Leave {
-        status: made.answer.status,
-        cause: made.cause,
-    };
-    let (seat, leaving) = desk.call(rt, alloc, seat, event);
-    match leaving {
-        Err(fault) => (seat, refusal(fault), false),
-        Ok(reply) => {
-            let closing = tells_closing(&reply);
-            let called = answer(alloc, message, made, &reply).unwrap_or(Called::Memory);
-            (seat, called, closing)
-        }
-    }
 }
 
 // What follows the Enter of a message with this target.
@@ -118,13 +54,33 @@ fn go_on<R: Wait, K: Keeper>(
     }
 }
 
-// Its event and its target.
-fn read_target(alloc: Global, message: &Message) -> Result<(Target, Event), Memory>
-    ensures { IfOk result (λ read. (read.0 ≡ target_of message.now.request.target) × (read.1 ≡ enter_at message.now read.0)) }
+// The way of a message to the stage that its target names.
+fn enter<R: Wait, K: Keeper>(
+    rt: &R,
+    alloc: Global,
+    desk: &Desk<Book<K>>,
+    seat: Seat<Book<K>>,
+    message: &Message,
+    target: &Target,
+) -> (Seat<Book<K>>, Called, bool)
+    requires desk { seat.desk ≡ desk.now }
+    requires own { HasItsOwn seat_of seat }
+    ensures { (acts : List Act) × Did seat result.0 acts × Reaches (walk_to message.now target.now) acts result.1 × (result.2 ≡ tell_closing acts) }
 {
-    let target = Target::read(alloc, message.request.target.as_str())?;
-    let event = enter_of(alloc, message, &target)?;
-    Ok((target, event))
+    let Ok(event) = enter_of(alloc, message, target) else {
+        return (seat, Called::Memory, false);
+    };
+    let (seat, entering) = desk.call(rt, alloc, seat, event);
+    match entering {
+        Err(fault) => (seat, refusal(fault), false),
+        Ok(reply) => go_on(rt, alloc, desk, seat, message, target, &reply),
+    }
+}
+
+fn read_target(alloc: Global, message: &Message) -> Result<Target, Memory>
+    ensures { IfOk result (λ target. target ≡ target_of message.now.request.target) }
+{
+    Target::read(alloc, message.request.target.as_str())
 }
 
 /// The whole way of a message, as far as it comes; the last tells whether the book replied that the session is closing.
@@ -139,12 +95,12 @@ pub(crate) fn call<R: Wait, K: Keeper>(
     requires own { HasItsOwn seat_of seat }
     ensures { (acts : List Act) × Did seat result.0 acts × Reaches (walk message.now) acts result.1 × (result.2 ≡ tell_closing acts) }
 {
-    let Ok((target, event)) = read_target(alloc, message) else {
+    let Ok(target) = read_target(alloc, message) else {
         return (seat, Called::Memory, false);
     };
-    let (seat, entering) = desk.call(rt, alloc, seat, event);
-    match entering {
-        Err(fault) => (seat, refusal(fault), false),
-        Ok(reply) => go_on(rt, alloc, desk, seat, message, &target, &reply),
+    if is_admin(&target) {
+        administer(rt, alloc, desk, seat, message, &target)
+    } else {
+        enter(rt, alloc, desk, seat, message, &target)
     }
 }

@@ -9,14 +9,14 @@ ghost use Rattle.turn_desk.specs.Calls.{HasItsOwn};
 
 use crate::called::Called;
 use crate::calling::call;
-use crate::edge::{end_at_edge, stopped_by};
+use crate::edge::{end_at_edge, end_full, stopped_by};
 use backend_core::Backend;
 use book_core::Book;
 use call_facts::Request;
 use gate_ports::{Conn, Gate, Means};
 use gate_walk::{Ended, Message};
 use gw_base::{Clock, Words, write_all};
-use http_edge::{Buffer, Incoming, busy_answer, next_message};
+use http_edge::{Buffer, Incoming, next_message};
 use keeper_core::Keeper;
 use std::alloc::Global;
 use std::sync::Wait;
@@ -85,14 +85,7 @@ pub fn serve_connection<R: Wait, K: Keeper, C: Conn, B: Backend, T: Clock, W: Wo
                 bytes,
                 closes,
             } => (bytes, closes),
-            Called::Full(full) => {
-                let _ = write_all(conn, busy_answer());
-                let ended = Ended::SessionFull {
-                    entries: full.entries,
-                    bytes: full.bytes,
-                };
-                return (seat, ended, closing);
-            }
+            Called::Full(full) => return (seat, end_full(conn, full), closing),
             Called::Memory => return (seat, Ended::Memory, closing),
         };
         if let Err(stop) = write_all(conn, bytes.as_slice()) {

@@ -35,15 +35,17 @@
 //! that is told, and shuts its port exactly where it read that the session is closing. Messages and steps are told where a
 //! connection tells no bytes, too.
 //!
-//! Left out: that a call returns (it may wait for its turn, and a lane for connections); that the 503 of a full session is
-//! written whole, where it could be, which a test shows; exchanges with backends, which no text API makes.
+//! Left out: that a call returns (it may wait for its turn, and a lane for connections); exchanges with backends, which no way
+//! makes yet.
 #![tactic(auto)]
 
+mod administering;
 mod called;
 mod calling;
 mod connection;
 mod edge;
 mod lane;
+mod leaving;
 
 pub use connection::serve_connection;
 pub use lane::serve_lane;

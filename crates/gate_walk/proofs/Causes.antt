@@ -1,5 +1,11 @@
 -- Each answer names its cause.
-use Rattle.std.proofs.Common.{◌≡◌, ℕ, Bool, true, false, List, Option, Result, Ok, Err, refl}
+use Rattle.std.proofs.Common.{◌≡◌, ℕ, Bool, true, false, List, Option, Some, None, Result, Ok, Err, refl}
+use Rattle.admin_routes.specs.Answers.{json_answer, json_made, replied_made, reply_status}
+use Rattle.admin_routes.specs.Asked.{Asked, asked_by}
+use Rattle.admin_routes.specs.Orders.{order_at, order_by, order_of}
+use Rattle.admin_routes.specs.Routes.{is_admin, route_in, segments_of}
+use Rattle.admin_routes.specs.declared.routes.Route.{Route}
+use Rattle.book_rules.specs.declared.events.Command.{Command}
 use Rattle.book_rules.specs.declared.replies.Reply.{Reply}
 use Rattle.book_rules.specs.declared.replies.Reply.TheVariants.{Entered, NoStage, Store, Left, Done, Deployed, Refused}
 use Rattle.book_rules.specs.declared.replies.View.{View}
@@ -9,7 +15,7 @@ use Rattle.call_facts.specs.declared.request.Request.{Request}
 use Rattle.call_facts.specs.declared.target.Target.{Target}
 use Rattle.gate_walk.specs.Answering.{made_at, made_by, made_for}
 use Rattle.gate_walk.specs.Laws.{NamesItsCause, causes_in, names_of}
-use Rattle.gate_walk.specs.Walk.{is_head, leaves, walk}
+use Rattle.gate_walk.specs.Walk.{administered, is_head, leaves, walk, way_to}
 use Rattle.gate_walk.specs.declared.message.Message.{Message}
 use Rattle.gate_walk.proofs.Ways.{Each, each_answer}
 use Rattle.http_edge.specs.Answers.{spelled}
@@ -20,6 +26,11 @@ use Rattle.vtl_eval.specs.declared.stop.Stop.{Stop}
 
 abbrev Names : Made → Type 0
 Names made = causes_in made.answer.headers ≡ names_of made.cause
+
+-- so does the answer of a message that asks nothing of the book
+abbrev IsErrNamed : Result Command Made → Type 0
+IsErrNamed (Ok command) = Unit {0}
+IsErrNamed (Err made) = Names made
 
 of_gateway : (kind : Kind) → Names (gateway_made kind)
 unfolding gateway_answer
@@ -53,9 +64,34 @@ Named m cause bytes closing told = (made : Made) × (made.cause ≡ cause) × (b
 on_leave : (m : Message) (made : Made) → Names made → Each (Named m) false (leaves m made)
 on_leave m made names reply = (made, refl, refl, names)
 
+-- an answer of the administration names none
+of_json : (status : ℕ) (body : List ℕ) → Names (json_made status body)
+unfolding json_answer
+of_json status body = refl
+
+of_order : (asked : Asked) → IsErrNamed (order_by asked)
+of_order (Ok command) = tt
+of_order (Err why) = of_json 400 _
+
+of_route : (route : Option Route) (body : List ℕ) → IsErrNamed (order_at route body)
+of_route None body = of_json 404 _
+of_route (Some route) body = of_order (asked_by route body)
+
+of_request : (large : Bool) (r : Request) (target : Target) → IsErrNamed (order_of large r target)
+of_request true r target = of_json 413 _
+of_request false r target = of_route (route_in r.method (segments_of target)) r.body
+
+on_order : (m : Message) (order : Result Command Made) → IsErrNamed order → Each (Named m) false (administered m order)
+on_order m (Ok command) names = λ reply. on_leave m (replied_made reply) (of_json (reply_status reply) _)
+on_order m (Err made) names = on_leave m made names
+
+on_target : (admin : Bool) (m : Message) (target : Target) → Each (Named m) false (way_to admin m target)
+on_target true m target = on_order m (order_of m.too_large m.request target) (of_request m.too_large m.request target)
+on_target false m target = λ reply. on_leave m (made_for m.too_large reply m.request target) (for_message m.too_large reply m.request target)
+
 on_way : (m : Message) → Each (Named m) false (walk m)
 unfolding walk
-on_way m reply = on_leave m (made_for m.too_large reply m.request (target_of m.request.target)) (for_message m.too_large reply m.request (target_of m.request.target))
+on_way m = on_target (is_admin (target_of m.request.target)) m (target_of m.request.target)
 
 pub names_its_cause : NamesItsCause
 names_its_cause m acts cause bytes closing g = each_answer (Named m) acts false (walk m) cause bytes closing (on_way m) g

@@ -7,7 +7,7 @@ use Rattle.book_rules.specs.declared.events.Event.{Event}
 use Rattle.gate_ports.specs.Facts.{ConnTold}
 use Rattle.gate_walk.specs.Acts.{Act, refused, Goes}
 use Rattle.gate_walk.specs.Ends.{WritesEdge, EndsWith}
-use Rattle.gate_walk.specs.Stories.{Turn, Hand, Story, answers_of, AreServed, StaysOpen, HasClosed, number_behind, IsInHand, StandsNext, Reads, IsFrontOf, Bytewise, IsBytewise, EndsBy, EndsAt, Writes, HasRisen, IsReadAt, AreReadAt, Tells, incoming_of}
+use Rattle.gate_walk.specs.Stories.{Turn, Hand, Story, answers_of, AreServed, StaysOpen, HasClosed, number_behind, IsInHand, StandsNext, Reads, IsHandFront, IsBusy, Bytewise, IsBytewise, EndsBy, EndsAt, Writes, HasRisen, IsReadAt, AreReadAt, Tells, incoming_of}
 use Rattle.gate_walk.specs.Walk.{answers, walk}
 use Rattle.gate_walk.specs.declared.ended.Ended.{Ended}
 use Rattle.gate_walk.specs.declared.ended.Ended.TheVariants.{Closed, Cut, BadHead, BadChunk, HeadTooLong, ReadFault, WriteFault, SessionFull, Memory}
@@ -157,7 +157,7 @@ module _ {moment word : Option ℕ} {old now mid new : ConnTold} {held held' : L
     ends = refl;
     readings = readings_more moment word turns t look.so_far.readings found.at;
     hand_readings = tt;
-    bytes = bytes_at look (Ok (incoming_of t.message.too_large t.message.request)) t.answer (IsBytewise Closed (no_hand (turns ++ t ∷ []))) found.comes wrote
+    bytes = bytes_at look (Ok (incoming_of t.message.too_large t.message.request)) t.answer (IsBytewise (Rose old.write_faults new.write_faults) Closed (no_hand (turns ++ t ∷ []))) found.comes wrote
         (λ left more after last h next. (
           held' ++ last,
           reads_more turns t left (held ++ after) (held' ++ last) h.0 next,
@@ -174,7 +174,7 @@ module _ {moment word : Option ℕ} {old now mid new : ConnTold} {held held' : L
     ends = refl;
     readings = readings_more moment word turns t look.so_far.readings found.at;
     hand_readings = tt;
-    bytes = bytes_at look (Ok (incoming_of t.message.too_large t.message.request)) wrote.1.0 (IsBytewise WriteFault (no_hand (turns ++ t ∷ []))) found.comes wrote.1.2
+    bytes = bytes_at look (Ok (incoming_of t.message.too_large t.message.request)) wrote.1.0 (IsBytewise (Rose old.write_faults new.write_faults) WriteFault (no_hand (turns ++ t ∷ []))) found.comes wrote.1.2
         (λ left more after last h next. (
           held' ++ last,
           reads_more turns t left (held ++ after) (held' ++ last) h.0 next,
@@ -188,41 +188,42 @@ module _ {moment word : Option ℕ} {old now mid new : ConnTold} {held held' : L
 
   -- memory was wanting while it was in hand: nothing of its answer was written, or a front
   pub lacks_then : (hand : Hand) (part : List ℕ) → Found moment word now mid held held' number hand.message → Goes (walk hand.message) hand.acts hand.next → Appends mid.written new.written part
-      → IsFrontOf hand.next part → Tells moment word old new Memory (with_hand turns hand)
+      → IsHandFront hand part → Tells moment word old new Memory (with_hand turns hand)
   lacks_then hand part found goes wrote front = record {
     served = look.so_far.served;
     ends = in_hand hand found.numbered goes;
     readings = look.so_far.readings;
     hand_readings = found.at;
-    bytes = bytes_at look (Ok (incoming_of hand.message.too_large hand.message.request)) part (IsBytewise Memory (with_hand turns hand)) found.comes wrote
+    bytes = bytes_at look (Ok (incoming_of hand.message.too_large hand.message.request)) part (IsBytewise (Rose old.write_faults new.write_faults) Memory (with_hand turns hand)) found.comes wrote
         (λ left more after last h next. (held ++ after, h.0, (held' ++ last, next, part, ap (λ x. x ++ part) h.1, front)));
     risen = tt;
   }
 
-  -- the session was full while it was in hand
-  pub full_then : (hand : Hand) (full : Full) → Found moment word now mid held held' number hand.message → Goes (walk hand.message) hand.acts hand.next → AppendsFront mid.written new.written (edge_bytes 503)
-      → ((front : List Act) × (event : Event) × (hand.acts ≡ front ++ refused event full ∷ [])) → Tells moment word old new (SessionFull full.entries full.bytes) (with_hand turns hand)
-  full_then hand full found goes wrote refusal = record {
+  -- the session was full while it was in hand: its answer at the edge was written, or a front of it where a write failed
+  pub full_then : (hand : Hand) (full : Full) (part : List ℕ) → Found moment word now mid held held' number hand.message → Goes (walk hand.message) hand.acts hand.next → Appends mid.written new.written part
+      → IsBusy (Rose old.write_faults new.write_faults) part → ((front : List Act) × (event : Event) × (hand.acts ≡ front ++ refused event full ∷ []))
+      → Tells moment word old new (SessionFull full.entries full.bytes) (with_hand turns hand)
+  full_then hand full part found goes wrote busy refusal = record {
     served = look.so_far.served;
     ends = (in_hand hand found.numbered goes, refusal);
     readings = look.so_far.readings;
     hand_readings = found.at;
-    bytes = bytes_at look (Ok (incoming_of hand.message.too_large hand.message.request)) wrote.1.0 (IsBytewise (SessionFull full.entries full.bytes) (with_hand turns hand)) found.comes wrote.1.2
-        (λ left more after last h next. (held ++ after, h.0, (held' ++ last, next, wrote.1.0, ap (λ x. x ++ wrote.1.0) h.1, (wrote.0, wrote.1.1))));
+    bytes = bytes_at look (Ok (incoming_of hand.message.too_large hand.message.request)) part (IsBytewise (Rose old.write_faults new.write_faults) (SessionFull full.entries full.bytes) (with_hand turns hand)) found.comes wrote
+        (λ left more after last h next. (held ++ after, h.0, (held' ++ last, next, part, ap (λ x. x ++ part) h.1, busy)));
     risen = tt;
   }
 
   -- no message was found: these hold of the turns whatever stands there
   ends_without : (ended : Ended) (result : Result Incoming EdgeFault) (part : List ℕ) → EndsBy ended turns None → HasRisen ended old new
       → Over Comes held now.left held' mid.left result → Appends mid.written new.written part
-      → ((rest more last : List ℕ) → more ≡ answers_of turns → Comes rest held' last result → Writes ended turns None rest (more ++ part) last)
+      → ((rest more last : List ℕ) → more ≡ answers_of turns → Comes rest held' last result → Writes (Rose old.write_faults new.write_faults) ended turns None rest (more ++ part) last)
       → Tells moment word old new ended (no_hand turns)
   ends_without ended result part ends risen comes wrote leads = record {
     served = look.so_far.served;
     ends = ends;
     readings = look.so_far.readings;
     hand_readings = tt;
-    bytes = bytes_at look result part (IsBytewise ended (no_hand turns)) comes wrote
+    bytes = bytes_at look result part (IsBytewise (Rose old.write_faults new.write_faults) ended (no_hand turns)) comes wrote
         (λ left more after last h next. (held ++ after, h.0, leads (held ++ after) more last h.1 next));
     risen = risen;
   }
@@ -238,7 +239,7 @@ module _ {moment word : Option ℕ} {old now mid new : ConnTold} {held held' : L
   -- a fault that is answered at the edge stands there: its answer was written, or a front of it
   at_edge : (fault : EdgeFault) (status : ℕ) (ended : Ended) → edge_status fault ≡ Some status → ((rest : List ℕ) (last : List ℕ) → Comes rest held' last (Err fault) → IsNext rest (Err fault) [])
       → EndsBy ended turns None → HasRisen ended old new
-      → ((rest written last : List ℕ) → EndsAt fault (edge_bytes status) turns rest written → Writes ended turns None rest written last)
+      → ((rest written last : List ℕ) → EndsAt fault (edge_bytes status) turns rest written → Writes (Rose old.write_faults new.write_faults) ended turns None rest written last)
       → (result : Ended) → Over Comes held now.left held' mid.left (Err fault) → WritesEdge mid.written new.written (edge_bytes status) ended result
       → (result ≡ WriteFault → Rose old.write_faults new.write_faults) → Tells moment word old new result (no_hand turns)
   at_edge fault status ended is next ends risen all result comes (inl (same, wrote)) rose =

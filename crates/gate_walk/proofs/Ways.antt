@@ -1,15 +1,20 @@
 -- What holds of every way of a message.
-use Rattle.std.proofs.Common.{◌≡◌, ℕ, ◌+◌, ◌≤◌, ◌==◌, arith, Bool, true, false, ◌||◌, List, [], ◌∷◌, Option, ap, sym, subst, refl}
+use Rattle.std.proofs.Common.{◌≡◌, ℕ, ◌+◌, ◌≤◌, ◌==◌, arith, Bool, true, false, ◌||◌, List, [], ◌∷◌, Option, Result, Ok, Err, ap, sym, subst, refl}
+use Rattle.admin_routes.specs.Answers.{replied_made}
+use Rattle.admin_routes.specs.Orders.{order_of}
+use Rattle.admin_routes.specs.Routes.{is_admin}
 use Rattle.backend_core.specs.declared.outcome.Outcome.{Outcome}
+use Rattle.book_rules.specs.declared.events.Command.{Command}
 use Rattle.book_rules.specs.declared.replies.Reply.{Reply}
 use Rattle.call_facts.specs.Target.{target_of}
 use Rattle.call_facts.specs.declared.kind.Kind.{Kind}
 use Rattle.call_facts.specs.declared.request.Request.{Request}
+use Rattle.call_facts.specs.declared.target.Target.{Target}
 use Rattle.std.proofs.lemmas.Grind.{common_steps}
 use Rattle.gate_walk.specs.Acts.{Act, took, refused, sent, Goes, sent_by, given_to, leaves_closing, tell_closing}
 use Rattle.gate_walk.specs.Answering.{made_for}
 use Rattle.gate_walk.specs.Closing.{asks_close, closes, most_messages}
-use Rattle.gate_walk.specs.Walk.{Call, asks, sends, answers, closing_by, leaves, walk}
+use Rattle.gate_walk.specs.Walk.{Call, asks, sends, answers, administered, closing_by, leaves, walk, way_to}
 use Rattle.gate_walk.specs.declared.message.Message.{Message}
 use Rattle.method_flow.specs.declared.answers.Made.{Made}
 
@@ -60,16 +65,24 @@ Closes m cause bytes stays closing = stays ≡ false → (closes m.number m.too_
 leaves_closes : (m : Message) (made : Made) → Each (Closes m) false (leaves m made)
 leaves_closes m made reply open_still = or_parts (closes m.number m.too_large m.request) (closing_by reply) open_still
 
+order_closes : (m : Message) (order : Result Command Made) → Each (Closes m) false (administered m order)
+order_closes m (Ok command) = λ reply. leaves_closes m (replied_made reply)
+order_closes m (Err made) = leaves_closes m made
+
+way_closes : (admin : Bool) (m : Message) (target : Target) → Each (Closes m) false (way_to admin m target)
+way_closes true m target = order_closes m (order_of m.too_large m.request target)
+way_closes false m target = λ reply. leaves_closes m (made_for m.too_large reply m.request target)
+
 walk_closes : (m : Message) → Each (Closes m) false (walk m)
 unfolding walk
-walk_closes m reply = leaves_closes m (made_for m.too_large reply m.request (target_of m.request.target))
+walk_closes m = way_closes (is_admin (target_of m.request.target)) m (target_of m.request.target)
 
 pub stays_open : (m : Message) (acts : List Act) (cause : Option Kind) (bytes : List ℕ) (closing : Bool)
     → Goes (walk m) acts (answers cause bytes closing) → closing ≡ false → (closes m.number m.too_large m.request ≡ false) × (tell_closing acts ≡ false)
 stays_open m acts cause bytes closing g e = each_answer (Closes m) acts false (walk m) cause bytes closing (walk_closes m) g e
 
 -- No backend is asked on it.
-abbrev AsksNone : Call → Type 0
+abbrev pub AsksNone : Call → Type 0
 AsksNone (asks event next) = (reply : Reply) → AsksNone (next reply)
 AsksNone (sends request next) = ⊥
 AsksNone (answers cause bytes closes) = Unit {0}
@@ -86,9 +99,17 @@ none_sent (sent request outcome ∷ acts) (asks e next) after h g = absurd g
 none_sent (sent request outcome ∷ acts) (sends other next) after h g = absurd h
 none_sent (sent request outcome ∷ acts) (answers a b c) after h g = absurd g
 
-walk_asks_none : (m : Message) → AsksNone (walk m)
+order_asks_none : (m : Message) (order : Result Command Made) → AsksNone (administered m order)
+order_asks_none m (Ok command) = λ reply left. tt
+order_asks_none m (Err made) = λ left. tt
+
+way_asks_none : (admin : Bool) (m : Message) (target : Target) → AsksNone (way_to admin m target)
+way_asks_none true m target = order_asks_none m (order_of m.too_large m.request target)
+way_asks_none false m target = λ reply left. tt
+
+pub walk_asks_none : (m : Message) → AsksNone (walk m)
 unfolding walk
-walk_asks_none m reply left = tt
+walk_asks_none m = way_asks_none (is_admin (target_of m.request.target)) m (target_of m.request.target)
 
 pub none_is_sent : (m : Message) (acts : List Act) (after : Call) → Goes (walk m) acts after → (sent_by acts ≡ []) × (given_to acts ≡ [])
 none_is_sent m acts after g = none_sent acts (walk m) after (walk_asks_none m) g

@@ -2,7 +2,8 @@
 use Rattle.std.specs.Prelude.{◌≡◌, ◌⊎◌, ℕ, List, [], Option}
 use Rattle.std.specs.Io.KnownBytes.{Appends}
 use Rattle.gate_walk.specs.declared.ended.Ended.{Ended}
-use Rattle.gate_walk.specs.declared.ended.Ended.TheVariants.{Cut, BadHead, BadChunk, HeadTooLong, ReadFault, WriteFault, Memory}
+use Rattle.gate_walk.specs.declared.ended.Ended.TheVariants.{Cut, BadHead, BadChunk, HeadTooLong, ReadFault, WriteFault, SessionFull, Memory}
+use Rattle.gate_walk.specs.declared.ended.SessionFull.{SessionFull as Numbers}
 use Rattle.gw_base.specs.Whole.{AppendsFront}
 use Rattle.http_edge.specs.Answers.{edge_bytes}
 use Rattle.http_framing.specs.declared.fault.EdgeFault.{EdgeFault}
@@ -21,3 +22,10 @@ EndsWith edge.Memory written now result = (result ≡ Memory) × Appends written
 EndsWith edge.BadHead written now result = WritesEdge written now (edge_bytes 400) BadHead result
 EndsWith edge.BadChunk written now result = WritesEdge written now (edge_bytes 400) BadChunk result
 EndsWith edge.HeadTooLong written now result = WritesEdge written now (edge_bytes 431) HeadTooLong result
+
+-- a step was refused, since the session is full: the answer at the edge was written, or a front of it, and then a write failed, or
+-- memory was wanting, which ends the connection so
+abbrev pub EndsFull : Type 0 → Numbers → Option (List ℕ) → Option (List ℕ) → Ended → Type 0
+EndsFull WriteFailed full written now result =
+    ((result ≡ SessionFull full.entries full.bytes) × (Appends written now (edge_bytes 503) ⊎ (WriteFailed × AppendsFront written now (edge_bytes 503))))
+    ⊎ ((result ≡ Memory) × AppendsFront written now (edge_bytes 503))

@@ -12,6 +12,8 @@ pub mod Stories
 pub mod Lanes
 -- how a connection ends by a fault of its input
 pub mod Ends
+-- what events and connections come to, where all that is outside of the book is told
+pub mod Told
 -- what holds of ways and of histories
 pub mod Laws
 -- how the end of a connection is printed

@@ -123,26 +123,34 @@ IsFrontOf (asks event next) part = part ≡ []
 IsFrontOf (answers cause bytes closing) part = IsFront part bytes
 IsFrontOf call part = part ≡ []
 
+-- or, where the session was full at the last of its acts, a front of the answer at the edge
+abbrev pub IsHandFront : Hand → List ℕ → Type 0
+IsHandFront hand part = IsFrontOf hand.next part ⊎ ((entries : ℕ) × (bytes : ℕ) × WasRefused entries bytes hand × IsFront part (edge_bytes 503))
+
+-- the answer at the edge where the session is full: all of it, or a front where a write failed
+abbrev pub IsBusy : Type 0 → List ℕ → Type 0
+IsBusy WriteFailed part = (part ≡ edge_bytes 503) ⊎ (WriteFailed × IsFront part (edge_bytes 503))
+
 -- behind the answers nothing was written, or a front of the answer at the edge
 abbrev pub IsEdgeFront : List ℕ → List ℕ → Type 0
 IsEdgeFront rest part = (part ≡ []) ⊎ ((answer : List ℕ) × IsAtEdge rest answer × IsFront part answer)
 
--- What stands behind the messages that were served, what was written, and what is left then, by the end.
-abbrev pub Writes : Ended → List Turn → Option Hand → List ℕ → List ℕ → List ℕ → Type 0
-Writes Closed turns hand rest written left = (written ≡ answers_of turns) × (HasClosed turns ⊎ IsNext rest (Ok End) [])
-Writes (Cut n) turns hand rest written left = EndsAt (edge.Cut n) [] turns rest written
-Writes BadHead turns hand rest written left = EndsAt edge.BadHead (edge_bytes 400) turns rest written
-Writes BadChunk turns hand rest written left = EndsAt edge.BadChunk (edge_bytes 400) turns rest written
-Writes HeadTooLong turns hand rest written left = EndsAt edge.HeadTooLong (edge_bytes 431) turns rest written
+-- What stands behind the messages that were served, what was written, and what is left then, by the end, and by whether a write failed.
+abbrev pub Writes : Type 0 → Ended → List Turn → Option Hand → List ℕ → List ℕ → List ℕ → Type 0
+Writes WriteFailed Closed turns hand rest written left = (written ≡ answers_of turns) × (HasClosed turns ⊎ IsNext rest (Ok End) [])
+Writes WriteFailed (Cut n) turns hand rest written left = EndsAt (edge.Cut n) [] turns rest written
+Writes WriteFailed BadHead turns hand rest written left = EndsAt edge.BadHead (edge_bytes 400) turns rest written
+Writes WriteFailed BadChunk turns hand rest written left = EndsAt edge.BadChunk (edge_bytes 400) turns rest written
+Writes WriteFailed HeadTooLong turns hand rest written left = EndsAt edge.HeadTooLong (edge_bytes 431) turns rest written
 -- neither a message nor a fault stands in what was taken
-Writes ReadFault turns hand rest written left = (written ≡ answers_of turns) × (taken : List ℕ) × (rest ≡ taken ++ left) × Stops taken
-Writes WriteFault turns hand rest written left = IsCutOff turns rest written
-Writes (SessionFull entries bytes) turns None rest written left = ⊥
-Writes (SessionFull entries bytes) turns (Some hand) rest written left =
-    (mid : List ℕ) × StandsNext rest hand.message mid × (part : List ℕ) × (written ≡ answers_of turns ++ part) × IsFront part (edge_bytes 503)
-Writes Memory turns None rest written left = (part : List ℕ) × (written ≡ answers_of turns ++ part) × IsEdgeFront rest part
-Writes Memory turns (Some hand) rest written left =
-    (mid : List ℕ) × StandsNext rest hand.message mid × (part : List ℕ) × (written ≡ answers_of turns ++ part) × IsFrontOf hand.next part
+Writes WriteFailed ReadFault turns hand rest written left = (written ≡ answers_of turns) × (taken : List ℕ) × (rest ≡ taken ++ left) × Stops taken
+Writes WriteFailed WriteFault turns hand rest written left = IsCutOff turns rest written
+Writes WriteFailed (SessionFull entries bytes) turns None rest written left = ⊥
+Writes WriteFailed (SessionFull entries bytes) turns (Some hand) rest written left =
+    (mid : List ℕ) × StandsNext rest hand.message mid × (part : List ℕ) × (written ≡ answers_of turns ++ part) × IsBusy WriteFailed part
+Writes WriteFailed Memory turns None rest written left = (part : List ℕ) × (written ≡ answers_of turns ++ part) × IsEdgeFront rest part
+Writes WriteFailed Memory turns (Some hand) rest written left =
+    (mid : List ℕ) × StandsNext rest hand.message mid × (part : List ℕ) × (written ≡ answers_of turns ++ part) × IsHandFront hand part
 
 -- where the bytes are told that were left and written before, they are told behind it: these were written, and what is left is the end of what was left
 abbrev pub Bytewise : Option (List ℕ) → Option (List ℕ) → Option (List ℕ) → Option (List ℕ) → (List ℕ → List ℕ → List ℕ → Type 0) → Type 0
@@ -154,8 +162,8 @@ Bytewise None written after now Holds = ⊤
 Bytewise (Some left) None after now Holds = ⊤
 
 -- with these bytes left at first, these written, and these left then
-abbrev pub IsBytewise : Ended → Story → List ℕ → List ℕ → List ℕ → Type 0
-IsBytewise ended story left written after = (rest : List ℕ) × Reads left story.turns rest × Writes ended story.turns story.hand rest written after
+abbrev pub IsBytewise : Type 0 → Ended → Story → List ℕ → List ℕ → List ℕ → Type 0
+IsBytewise WriteFailed ended story left written after = (rest : List ℕ) × Reads left story.turns rest × Writes WriteFailed ended story.turns story.hand rest written after
 
 -- a reading is the fixed one, where that is told
 abbrev pub IsFixed : Option ℕ → ℕ → Type 0
@@ -187,6 +195,6 @@ pub record Tells (moment word : Option ℕ) (old new : ConnTold) (ended : Ended)
   pub readings : AreReadAt moment word story.turns
   pub hand_readings : IsHandReadAt moment word story.hand
   -- they are those in the bytes, and their answers were written;
-  pub bytes : Bytewise old.left old.written new.left new.written (IsBytewise ended story)
+  pub bytes : Bytewise old.left old.written new.left new.written (IsBytewise (Rose old.write_faults new.write_faults) ended story)
   -- and a fault has its count.
   pub risen : HasRisen ended old new

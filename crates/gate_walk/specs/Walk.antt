@@ -1,10 +1,14 @@
 -- The way of one message through the gateway, as a tree of what is asked next.
-use Rattle.std.specs.Prelude.{ℕ, Bool, false, ◌||◌, List, codes, Option}
+use Rattle.std.specs.Prelude.{ℕ, Bool, true, false, ◌||◌, List, codes, Option, Result, Ok, Err}
 use Rattle.std.specs.Str.{bytes_eq}
+use Rattle.admin_routes.specs.Answers.{replied_made}
+use Rattle.admin_routes.specs.Orders.{order_of}
+use Rattle.admin_routes.specs.Routes.{is_admin}
 use Rattle.backend_core.specs.declared.outcome.Outcome.{Outcome}
 use Rattle.backend_core.specs.declared.request.WireRequest.{WireRequest}
+use Rattle.book_rules.specs.declared.events.Command.{Command}
 use Rattle.book_rules.specs.declared.events.Event.{Event}
-use Rattle.book_rules.specs.declared.events.Event.TheVariants.{Enter, Leave}
+use Rattle.book_rules.specs.declared.events.Event.TheVariants.{Enter, Admin, Leave}
 use Rattle.book_rules.specs.declared.replies.Reply.{Reply}
 use Rattle.book_rules.specs.declared.replies.Reply.TheVariants.{Entered, NoStage, Store, Left, Done, Deployed, Refused}
 use Rattle.call_facts.specs.Target.{target_of}
@@ -55,6 +59,15 @@ entered m target reply = leaves m (made_for m.too_large reply m.request target)
 abbrev pub walk_to : Message → Target → Call
 walk_to m target = asks (Enter m.moment m.word target.api target.stage) (entered m target)
 
--- the whole way: it enters at the stage that its target names
+-- an administration request: a command is asked of the book, and its reply answered; else it is answered at once
+abbrev pub administered : Message → Result Command Made → Call
+administered m (Ok command) = asks (Admin m.moment command) (λ reply. leaves m (replied_made reply))
+administered m (Err made) = leaves m made
+
+abbrev pub way_to : Bool → Message → Target → Call
+way_to true m target = administered m (order_of m.too_large m.request target)
+way_to false m target = walk_to m target
+
+-- the whole way: to the administration, or to the stage that its target names
 unfoldable pub walk : Message → Call
-walk m = walk_to m (target_of m.request.target)
+walk m = way_to (is_admin (target_of m.request.target)) m (target_of m.request.target)

@@ -18,7 +18,8 @@
 //! | whose render stops | Enter, Leave with 500 and `API_CONFIGURATION_ERROR` |
 //! | to a stage that is not there | Enter, Leave with 403 and `UNKNOWN_STAGE` |
 //! | whose body is too large | Enter, Leave with 413 and `REQUEST_TOO_LARGE`, whatever its stage; the connection closes |
-//! | where the session is full | Enter or Leave, refused: nothing follows |
+//! | to the administration | the command, if one is asked for, and Leave with the answer to its reply; no cause |
+//! | where the session is full | the step in hand, refused: nothing follows |
 //!
 //! * [`Message`] is a message with its number on the connection, its moment and its word of chance; [`answer_for`] makes what is
 //!   answered to it by the reply to its Enter, and [`closes`] tells whether the connection closes behind it (RFC 9112, section 9.6).
@@ -27,7 +28,8 @@
 //! What is promised: `answer_for` and `closes` are their definitions (`made_for`, `specs/Answering.antt`; `closes`,
 //! `specs/Closing.antt`), and an end is printed as `ended_name` says. `specs/Stories.antt` says what a connection's story is by
 //! each of its nine ends (`Tells`), `specs/Lanes.antt` the same of a lane. As laws, [`laws`]: what stands in a history stands in
-//! each longer one without an entry of that seat, and each answer names the one cause that it has.
+//! each longer one without an entry of that seat; each answer names the one cause that it has; and where all that is outside of it is
+//! told and one seat makes all entries, a connection comes to one thing (`ComesTo`, `specs/Told.antt`).
 #![tactic(auto)]
 
 mod answering;

@@ -1,17 +1,17 @@
 -- The words, the input and the files come to one outcome, and what is written where the program is cut short is a front of it.
-use Rattle.std.proofs.Common.{◌≡◌, inl, inr, ℕ, ◌+◌, Bool, true, false, List, [], ◌∷◌, ◌++◌, Option, Some, None, Result, Ok, Err, refl, sym, ap, ◌∙◌, subst, append_assoc}
+use Rattle.std.proofs.Common.{◌≡◌, inl, inr, ℕ, ◌+◌, Bool, true, false, List, [], ◌∷◌, ◌++◌, Option, Some, None, IsSome, Result, Ok, Err, refl, sym, ap, ◌∙◌, subst, append_assoc}
 use Rattle.book_rules.specs.declared.events.Entry.{Entry}
 use Rattle.book_rules.specs.History.{Base}
 use Rattle.call_facts.specs.declared.request.WireReply.{WireReply}
 use Rattle.http_edge.proofs.ReplyUnique.{reply_unique}
 use Rattle.http_framing.specs.declared.fault.EdgeFault.{EdgeFault}
-use Rattle.play_connection.proofs.Once.{connects_once}
+use Rattle.gate_walk.proofs.Once.{comes_to_one_thing}
 use Rattle.play_script.specs.Calls.{IsWhole, IsOther, IsNoWhole, IsOutcome, IsNoOutcome, AreOutcomes, BreaksOutcomes}
 use Rattle.play_script.specs.Coding.{is_passed_over}
 use Rattle.gateway_cli.specs.Commands.{is_play, OutcomeBy, Outcome, OutcomeFrontBy, OutcomeFront, HasOneOutcome, FrontsAreOfTheOutcome}
 use Rattle.outside_core.specs.Files.{Files}
 use Rattle.play_script.specs.Play.{Turn, Output, before, talked, IsTalk, Does, DoesOrNot, PassesOrDoes, IsTurn, GoesOn, Plays, IsFront, GoesOnInFront, PlaysFront, PlayedBy, Played, OpenedFrontBy, PlayedFrontBy, PlayedFront, opening_of, session_limits}
-use Rattle.play_connection.specs.Sessions.{base_of}
+use Rattle.play_session.specs.Sessions.{base_of}
 use Rattle.play_script.specs.Records.{record_in}
 use Rattle.play_script.specs.declared.records.LineFault.{LineFault}
 use Rattle.play_script.specs.declared.records.Record.{Record}
@@ -35,47 +35,12 @@ all_or_not [] are breaks = breaks
 all_or_not (field ∷ fields) are (inl other) = outcome_or_not field are.0 other
 all_or_not (field ∷ fields) are (inr breaks) = all_or_not fields are.1 breaks.1
 
--- lines
-
-talk_once : (base : Base) (history : List Entry) (moment word : ℕ) (bytes : List ℕ) (a b : Turn) → IsTalk base history moment word bytes a → IsTalk base history moment word bytes b → a ≡ b
-talk_once base history moment word bytes a b (said, connects, is) (other, also, told) =
-    is ∙ ap talked (connects_once base moment word history bytes said other connects also) ∙ sym told
-
-does_once : (base : Base) (number : ℕ) (history : List Entry) (found : Record) (a b : Turn) → Does base number history found a → Does base number history found b → a ≡ b
-does_once base number history (PutText moment api template) a b x y = x ∙ sym y
-does_once base number history (Deploy moment api) a b x y = x ∙ sym y
-does_once base number history (PutStage moment api stage deployment variables) a b x y = x ∙ sym y
-does_once base number history (Shutdown moment) a b x y = x ∙ sym y
-does_once base number history (Post moment word api stage body) a b x y = talk_once base history moment word _ a b x y
-does_once base number history (Call moment word bytes outcomes) a b (inl x) (inl y) = talk_once base history moment word bytes a b x.1 y.1
-does_once base number history (Call moment word bytes outcomes) a b (inl x) (inr y) = absurd (all_or_not outcomes x.0 y.0)
-does_once base number history (Call moment word bytes outcomes) a b (inr x) (inl y) = absurd (all_or_not outcomes y.0 x.0)
-does_once base number history (Call moment word bytes outcomes) a b (inr x) (inr y) = x.1 ∙ sym y.1
-
-found_once : (base : Base) (number : ℕ) (history : List Entry) (found : Result Record LineFault) (a b : Turn) → DoesOrNot base number history found a → DoesOrNot base number history found b → a ≡ b
-found_once base number history (Ok found) a b x y = does_once base number history found a b x y
-found_once base number history (Err fault) a b x y = x ∙ sym y
-
-passed_once : (base : Base) (number : ℕ) (history : List Entry) (line : List ℕ) (passed : Bool) (a b : Turn) → PassesOrDoes base number history line passed a → PassesOrDoes base number history line passed b → a ≡ b
-passed_once base number history line true a b x y = x ∙ sym y
-passed_once base number history line false a b x y = found_once base number history (record_in line) a b x y
-
-turn_once : (base : Base) (number : ℕ) (history : List Entry) (line : List ℕ) (a b : Turn) → IsTurn base number history line a → IsTurn base number history line b → a ≡ b
-turn_once base number history line a b x y = passed_once base number history line (is_passed_over line) a b x y
-
--- plays
+-- what follows a line
 
 goes_once : (ends : Option End) (text : List ℕ) (further : Output → Type 0) (once : (p q : Output) → further p → further q → p ≡ q) (a b : Output)
     → GoesOn ends text further a → GoesOn ends text further b → a ≡ b
 goes_once None text further once a b (rest, plays, is) (other, also, told) = is ∙ ap (before text) (once rest other plays also) ∙ sym told
 goes_once (Some end) text further once a b x y = x ∙ sym y
-
-plays_once : (base : Base) (number : ℕ) (history : List Entry) (lines : List (List ℕ)) (a b : Output) → Plays base number history lines a → Plays base number history lines b → a ≡ b
-plays_once base number history [] a b x y = x ∙ sym y
-plays_once base number history (line ∷ lines) a b (now, turn, goes) (then_, also, went) =
-    let same = turn_once base number history line then_ now also turn in
-    goes_once now.ends now.text (Plays base (number + 1) now.history lines) (λ p q. plays_once base (number + 1) now.history lines p q) a b goes
-    (subst (λ (t : Turn). GoesOn t.ends t.text (Plays base (number + 1) t.history lines) b) same went)
 
 -- fronts
 
@@ -95,19 +60,57 @@ behind_front None text further fronts front a each (rest, plays, is) (more, hold
     (inner.0, ap (λ f. f ++ inner.0) told ∙ append_assoc text more inner.0 ∙ ap (λ t. text ++ t) inner.1)
 behind_front (Some end) text further fronts front a each is none = absurd none
 
-plays_front_once : (base : Base) (number : ℕ) (history : List Entry) (lines : List (List ℕ)) (front : List ℕ) (a : Output)
-    → PlaysFront base number history lines front → Plays base number history lines a → IsFront front a.text
-plays_front_once base number history [] front a none is = (a.text, ap (λ f. f ++ a.text) none)
-plays_front_once base number history (line ∷ lines) front a (inl none) plays = (a.text, ap (λ f. f ++ a.text) none)
-plays_front_once base number history (line ∷ lines) front a (inr (now, turn, inl is)) (then_, also, went) =
-    let same = turn_once base number history line then_ now also turn in
-    goes_in_front now.ends now.text (Plays base (number + 1) now.history lines) front a
-    (subst (λ (t : Turn). GoesOn t.ends t.text (Plays base (number + 1) t.history lines) a) same went) is
-plays_front_once base number history (line ∷ lines) front a (inr (now, turn, inr behind)) (then_, also, went) =
-    let same = turn_once base number history line then_ now also turn in
-    behind_front now.ends now.text (Plays base (number + 1) now.history lines) (PlaysFront base (number + 1) now.history lines) front a
-    (λ more rest holds plays. plays_front_once base (number + 1) now.history lines more rest holds plays)
-    (subst (λ (t : Turn). GoesOn t.ends t.text (Plays base (number + 1) t.history lines) a) same went) behind
+module _ (base : Base) (told : IsSome base.start.planned) where
+  -- lines
+
+  talk_once : (history : List Entry) (moment word : ℕ) (bytes : List ℕ) (a b : Turn) → IsTalk base history moment word bytes a → IsTalk base history moment word bytes b → a ≡ b
+  talk_once history moment word bytes a b (said, connects, is) (other, also, is_too) =
+      is ∙ ap talked (comes_to_one_thing base 0 moment word history bytes said other told connects also) ∙ sym is_too
+
+  does_once : (number : ℕ) (history : List Entry) (found : Record) (a b : Turn) → Does base number history found a → Does base number history found b → a ≡ b
+  does_once number history (PutText moment api template) a b x y = x ∙ sym y
+  does_once number history (Deploy moment api) a b x y = x ∙ sym y
+  does_once number history (PutStage moment api stage deployment variables) a b x y = x ∙ sym y
+  does_once number history (Shutdown moment) a b x y = x ∙ sym y
+  does_once number history (Post moment word api stage body) a b x y = talk_once history moment word _ a b x y
+  does_once number history (Call moment word bytes outcomes) a b (inl x) (inl y) = talk_once history moment word bytes a b x.1 y.1
+  does_once number history (Call moment word bytes outcomes) a b (inl x) (inr y) = absurd (all_or_not outcomes x.0 y.0)
+  does_once number history (Call moment word bytes outcomes) a b (inr x) (inl y) = absurd (all_or_not outcomes y.0 x.0)
+  does_once number history (Call moment word bytes outcomes) a b (inr x) (inr y) = x.1 ∙ sym y.1
+
+  found_once : (number : ℕ) (history : List Entry) (found : Result Record LineFault) (a b : Turn) → DoesOrNot base number history found a → DoesOrNot base number history found b → a ≡ b
+  found_once number history (Ok found) a b x y = does_once number history found a b x y
+  found_once number history (Err fault) a b x y = x ∙ sym y
+
+  passed_once : (number : ℕ) (history : List Entry) (line : List ℕ) (passed : Bool) (a b : Turn) → PassesOrDoes base number history line passed a → PassesOrDoes base number history line passed b → a ≡ b
+  passed_once number history line true a b x y = x ∙ sym y
+  passed_once number history line false a b x y = found_once number history (record_in line) a b x y
+
+  turn_once : (number : ℕ) (history : List Entry) (line : List ℕ) (a b : Turn) → IsTurn base number history line a → IsTurn base number history line b → a ≡ b
+  turn_once number history line a b x y = passed_once number history line (is_passed_over line) a b x y
+
+  -- plays
+
+  plays_once : (number : ℕ) (history : List Entry) (lines : List (List ℕ)) (a b : Output) → Plays base number history lines a → Plays base number history lines b → a ≡ b
+  plays_once number history [] a b x y = x ∙ sym y
+  plays_once number history (line ∷ lines) a b (now, turn, goes) (then_, also, went) =
+      let same = turn_once number history line then_ now also turn in
+      goes_once now.ends now.text (Plays base (number + 1) now.history lines) (λ p q. plays_once (number + 1) now.history lines p q) a b goes
+      (subst (λ (t : Turn). GoesOn t.ends t.text (Plays base (number + 1) t.history lines) b) same went)
+
+  plays_front_once : (number : ℕ) (history : List Entry) (lines : List (List ℕ)) (front : List ℕ) (a : Output)
+      → PlaysFront base number history lines front → Plays base number history lines a → IsFront front a.text
+  plays_front_once number history [] front a none is = (a.text, ap (λ f. f ++ a.text) none)
+  plays_front_once number history (line ∷ lines) front a (inl none) plays = (a.text, ap (λ f. f ++ a.text) none)
+  plays_front_once number history (line ∷ lines) front a (inr (now, turn, inl is)) (then_, also, went) =
+      let same = turn_once number history line then_ now also turn in
+      goes_in_front now.ends now.text (Plays base (number + 1) now.history lines) front a
+      (subst (λ (t : Turn). GoesOn t.ends t.text (Plays base (number + 1) t.history lines) a) same went) is
+  plays_front_once number history (line ∷ lines) front a (inr (now, turn, inr behind)) (then_, also, went) =
+      let same = turn_once number history line then_ now also turn in
+      behind_front now.ends now.text (Plays base (number + 1) now.history lines) (PlaysFront base (number + 1) now.history lines) front a
+      (λ more rest holds plays. plays_front_once (number + 1) now.history lines more rest holds plays)
+      (subst (λ (t : Turn). GoesOn t.ends t.text (Plays base (number + 1) t.history lines) a) same went) behind
 
 -- scripts and words
 
@@ -115,13 +118,13 @@ played_by_once : (long : Bool) (script : List ℕ) (a b : Output) → PlayedBy l
 played_by_once true script a b x y = x ∙ sym y
 played_by_once false script a b x y =
     let opening = opening_of script in
-    plays_once (base_of session_limits opening.fails) opening.number [] opening.lines a b x.1 y.1
+    plays_once (base_of session_limits opening.fails) tt opening.number [] opening.lines a b x.1 y.1
 
 played_front_by : (long : Bool) (script front : List ℕ) (a : Output) → PlayedBy long script a → PlayedFrontBy long script front → IsFront front a.text
 played_front_by true script front a is f = subst (λ (o : Output). IsFront front o.text) (sym is) f
 played_front_by false script front a plays f =
     let opening = opening_of script in
-    plays_front_once (base_of session_limits opening.fails) opening.number [] opening.lines front a
+    plays_front_once (base_of session_limits opening.fails) tt opening.number [] opening.lines front a
     (subst (λ named. OpenedFrontBy named session_limits opening front) plays.0 f) plays.1
 
 outcome_by_once : (play : Bool) (words : List (List ℕ)) (input : List ℕ) (files : Files) (a b : Output) → OutcomeBy play words input files a → OutcomeBy play words input files b → a ≡ b

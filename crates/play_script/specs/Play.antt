@@ -12,9 +12,8 @@ use Rattle.book_rules.specs.declared.events.Command.TheVariants as command
 use Rattle.book_rules.specs.declared.events.Event.TheVariants.{Admin}
 use Rattle.book_rules.specs.declared.events.Entry.{Entry}
 use Rattle.book_rules.specs.declared.replies.Reply.{Reply}
-use Rattle.play_connection.specs.Serving.{reply_at, taken}
-use Rattle.play_connection.specs.Sessions.{base_of}
-use Rattle.play_connection.specs.Talks.{Said, Connects}
+use Rattle.gate_walk.specs.Told.{Came, ComesTo, reply_at, taken}
+use Rattle.play_session.specs.Sessions.{base_of}
 use Rattle.gate_walk.specs.declared.ended.SessionFull.{SessionFull}
 use Rattle.play_script.specs.Calls.{post_bytes, AreOutcomes, BreaksOutcomes, end_of, connection_lines}
 use Rattle.play_script.specs.Coding.{lines_of, is_passed_over}
@@ -40,7 +39,7 @@ commanded_by (Err full) history told = record { history = history; text = full_l
 
 unfoldable pub commanded : Base → List Entry → ℕ → Command → Turn
 commanded base history moment asked =
-    commanded_by (taken base history (Admin moment asked)) history (reply_at base history (Admin moment asked))
+    commanded_by (taken 0 base history (Admin moment asked)) history (reply_at base history (Admin moment asked))
 
 -- a line that is refused ends the play
 abbrev pub refused : ℕ → List Entry → LineFault → Turn
@@ -56,12 +55,12 @@ put_text base number history moment api template (Ok items) = commanded base his
 put_text base number history moment api template (Err fault) = refused number history (Template fault)
 
 -- what a connection came to
-abbrev pub talked : Said → Turn
-talked said = record { history = said.history; text = connection_lines said.written said.ended; ends = end_of said.ended }
+abbrev pub talked : Came → Turn
+talked came = record { history = came.history; text = connection_lines came.written came.ended; ends = end_of came.ended }
 
 -- a connection with these bytes
 abbrev pub IsTalk : Base → List Entry → ℕ → ℕ → List ℕ → Turn → Type 0
-IsTalk base history moment word bytes now = (said : Said) × Connects base moment word history bytes said × (now ≡ talked said)
+IsTalk base history moment word bytes now = (came : Came) × ComesTo base 0 moment word history bytes came × (now ≡ talked came)
 
 -- a connection whose outcomes have their form, or a line that is refused
 abbrev pub IsCall : Base → ℕ → List Entry → ℕ → ℕ → List ℕ → List (List ℕ) → Turn → Type 0

@@ -1,8 +1,8 @@
 -- Why a play stops before its end.
 use Rattle.gw_base.specs.declared.outside.WriteStop.{WriteStop}
 use Rattle.gw_base.specs.declared.outside.WriteStop.TheVariants as write
-use Rattle.play_connection.specs.declared.session.SessionFault.{SessionFault}
-use Rattle.play_connection.specs.declared.session.SessionFault.TheVariants as session
+use Rattle.play_session.specs.declared.session.SessionFault.{SessionFault}
+use Rattle.play_session.specs.declared.session.SessionFault.TheVariants as session
 use Rattle.play_script.specs.declared.stops.PlayStop.{PlayStop}
 use Rattle.play_script.specs.declared.stops.PlayStop.TheVariants.{Keeper, Output, Memory}
 

@@ -15,7 +15,7 @@ use api_model::{Api, ApiCause, ApiFault};
 use book_rules::{Command, Event};
 use call_facts::Vars;
 use gw_base::{Bytes, Memory, Seq, Shared, Text};
-use play_connection::Session;
+use play_session::{Reading, Session};
 use std::alloc::Global;
 use std::sync::Wait;
 
@@ -109,16 +109,15 @@ fn call<R: Wait>(
     session: &mut Session<'_, R>,
     alloc: Global,
     number: u64,
-    moment: u64,
-    word: u64,
+    reading: Reading,
     bytes: &[u8],
     outcomes: &[Bytes],
 ) -> Result<Said, Memory>
-    ensures does { IfOk result (λ said. IsCall session.old.base number session.old.history moment word bytes.now outcomes.now (record { history = session.new.history; text = said.text; ends = said.ends })) }
+    ensures does { IfOk result (λ said. IsCall session.old.base number session.old.history reading.moment reading.word bytes.now outcomes.now (record { history = session.new.history; text = said.text; ends = said.ends })) }
     ensures base { session.new.base ≡ session.old.base }
 {
     if are_outcomes(alloc, outcomes)? {
-        talk(session, alloc, moment, word, bytes)
+        talk(session, alloc, reading, bytes)
     } else {
         refuse(alloc, number, LineFault::BadRecord)
     }
@@ -157,7 +156,12 @@ fn carry_out<R: Wait>(
             body,
         } => {
             let bytes = post_bytes(alloc, api.as_str(), stage.as_str(), body.as_str())?;
-            talk(session, alloc, moment, word, bytes.as_str().as_bytes())
+            talk(
+                session,
+                alloc,
+                Reading { moment, word },
+                bytes.as_str().as_bytes(),
+            )
         }
         Record::Call {
             moment,
@@ -168,8 +172,7 @@ fn carry_out<R: Wait>(
             session,
             alloc,
             number,
-            moment,
-            word,
+            Reading { moment, word },
             bytes.as_slice(),
             outcomes.as_slice(),
         ),

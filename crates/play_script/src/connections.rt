@@ -7,7 +7,7 @@ use crate::joining::join;
 use crate::printed::full_line;
 use crate::turns::{End, Said};
 use gw_base::{Memory, Text};
-use play_connection::{Ended, Session, SessionFull, connect};
+use play_session::{Ended, Reading, Session, SessionFull};
 use record_fields::encode;
 use std::alloc::Global;
 use std::sync::Wait;
@@ -102,14 +102,13 @@ fn end_of(ended: Ended) -> Option<End>
 pub fn talk<R: Wait>(
     session: &mut Session<'_, R>,
     alloc: Global,
-    moment: u64,
-    word: u64,
+    reading: Reading,
     bytes: &[u8],
 ) -> Result<Said, Memory>
-    ensures does { IfOk result (λ said. IsTalk session.old.base session.old.history moment word bytes.now (record { history = session.new.history; text = said.text; ends = said.ends })) }
+    ensures does { IfOk result (λ said. IsTalk session.old.base session.old.history reading.moment reading.word bytes.now (record { history = session.new.history; text = said.text; ends = said.ends })) }
     ensures base { session.new.base ≡ session.old.base }
 {
-    let talk = connect(session, alloc, moment, word, bytes)?;
+    let talk = session.connect(alloc, reading, bytes)?;
     Ok(Said {
         text: connection_lines(alloc, talk.written.as_slice(), talk.ended)?,
         ends: end_of(talk.ended),

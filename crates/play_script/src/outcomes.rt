@@ -5,7 +5,7 @@ ghost use Rattle.play_script.specs.Calls.{IsWhole, IsNoWhole, IsOutcome, IsNoOut
 
 use gw_base::{Bytes, Memory};
 use http_edge::{Buffer, EdgeFault, next_reply};
-use play_connection::SliceSource;
+use play_session::SliceSource;
 use std::alloc::Global;
 
 // Whether a field is the bytes of one whole reply with nothing behind it.

@@ -12,7 +12,7 @@ use crate::stops::PlayStop;
 use crate::turns::End;
 use book_rules::Limits;
 use gw_base::{Sink, WriteStop, write_all};
-use play_connection::Session;
+use play_session::Session;
 use std::alloc::Global;
 use std::sync::Wait;
 

@@ -6,7 +6,7 @@ use crate::joining::join;
 use crate::records::LineFault;
 use book_rules::Reply;
 use gw_base::{Memory, Text};
-use play_connection::SessionFull;
+use play_session::SessionFull;
 use std::alloc::Global;
 
 /// The line of a command's reply.

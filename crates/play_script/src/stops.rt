@@ -3,7 +3,7 @@ ghost use Rattle.play_script.specs.declared.stops.PlayStop.TheVariants.{Memory a
 ghost use Rattle.play_script.specs.Stops.{of_write, of_session};
 
 use gw_base::{Memory, WriteStop};
-use play_connection::SessionFault;
+use play_session::SessionFault;
 
 /// Why a play stops before its end.
 #[derive(Clone, Copy, Debug, PartialEq, Eq)]

@@ -3,7 +3,7 @@ use Rattle.std.proofs.KnownBytes.{Appends-nil}
 use Rattle.std.specs.Io.KnownBytes.{Appends}
 use Rattle.gate_ports.specs.Facts.{ConnTold}
 use Rattle.gate_serve.specs.Serving.{GoesOnBy, Reaches}
-use Rattle.gate_serve.proofs.Running.{Running, ComesTo, runs_first, goes_on_by_none, rose_from, comes_to_fault, comes_to_end, comes_to_full, comes_to_lack, comes_to_close, comes_to_stop, runs_on}
+use Rattle.gate_serve.proofs.Running.{Running, CameTo, runs_first, goes_on_by_none, rose_from, comes_to_fault, comes_to_end, comes_to_full, full_from, comes_to_lack, comes_to_close, comes_to_stop, runs_on}
 use Rattle.gate_serve.specs.declared.called.Called.TheVariants as called
 use Rattle.gate_walk.specs.Acts.{sent_by, given_to}
 use Rattle.gate_walk.specs.Stories.{IsFixed, acts_of, incoming_of}
@@ -104,8 +104,8 @@ returns-in-Full-clause-served g c =
     let word = g.W.Words.fixed c.args.means.now.words in
     let read = sym (law mid) ∙ c.next_message.ensures.beside ∙ law at in
     let r = c.loop-incoming.invariant.running in
-    let new = c.write_all.new.sink in
-    let wrote = sym (law' new) ∙ c.write_all.ensures.beside ∙ law' mid in
+    let new = c.end_full.new.conn in
+    let wrote = sym (law' new) ∙ c.end_full.ensures.beside ∙ law' mid in
     let look : Looked moment word (told start) (told at) (told mid) (told new) c.loop-incoming.rest.bytes c.next_message.new.rest.bytes c.loop-incoming.number r.turns =
     record { so_far = r.said; takes = c.next_message.ensures.taken; unwritten = ap (λ p. p.0) read; unread = ap (λ p. p.0) wrote } in
     let m : Message = record { number = c.loop-incoming.number; too_large = c.in-Some.too_large; request = c.in-Some.request; moment = c.now.result; word = c.next.result } in
@@ -117,9 +117,10 @@ returns-in-Full-clause-served g c =
       comes = subst (λ i. Over Comes c.loop-incoming.rest.bytes (g.C.Source.left at) c.next_message.new.rest.bytes (g.C.Source.left mid) (Ok i)) is (c.in-Ok.ensures.next c.loop-incoming.invariant.fault);
     } in
     let w = c.call-next.ensures in
-    let front = subst (λ b. AppendsFront (g.C.Sink.written mid) (g.C.Sink.written new) b) c.busy_answer.ensures c.write_all.ensures.front in
+    let ends = full_from (λ rose. rose_from _ _ _ c.loop-incoming.invariant.writes (subst (λ n. Rose n (g.C.Sink.faults new)) (ap (λ p. p.1) read) rose)) c.in-Full.full (g.C.Sink.written mid) (g.C.Sink.written new)
+    c.end_full.result c.end_full.ensures.ends in
     let reach = subst (λ x. Reaches (walk m) w.0 x) c.in-Full.is w.2 in
-    let e = comes_to_full r look c.call-next.result.0 m w.0 c.call-next.result.2 found w.1 w.3 c.in-Full.full reach front in
+    let e = comes_to_full r look c.call-next.result.0 m w.0 c.call-next.result.2 found w.1 w.3 c.in-Full.full c.end_full.result reach ends in
     let same = sym c.loop-incoming.invariant.backend in (
       e.0,
       e.1,
@@ -175,8 +176,8 @@ returns-in-Err-write_all-clause-served g c =
     let word = g.W.Words.fixed c.args.means.now.words in
     let read = sym (law mid) ∙ c.next_message.ensures.beside ∙ law at in
     let r = c.loop-incoming.invariant.running in
-    let new = c.write_all-in-loop-incoming.new.sink in
-    let wrote = sym (law' new) ∙ c.write_all-in-loop-incoming.ensures.beside ∙ law' mid in
+    let new = c.write_all.new.sink in
+    let wrote = sym (law' new) ∙ c.write_all.ensures.beside ∙ law' mid in
     let look : Looked moment word (told start) (told at) (told mid) (told new) c.loop-incoming.rest.bytes c.next_message.new.rest.bytes c.loop-incoming.number r.turns =
     record { so_far = r.said; takes = c.next_message.ensures.taken; unwritten = ap (λ p. p.0) read; unread = ap (λ p. p.0) wrote } in
     let m : Message = record { number = c.loop-incoming.number; too_large = c.in-Some.too_large; request = c.in-Some.request; moment = c.now.result; word = c.next.result } in
@@ -188,7 +189,7 @@ returns-in-Err-write_all-clause-served g c =
       comes = subst (λ i. Over Comes c.loop-incoming.rest.bytes (g.C.Source.left at) c.next_message.new.rest.bytes (g.C.Source.left mid) (Ok i)) is (c.in-Ok.ensures.next c.loop-incoming.invariant.fault);
     } in
     let w = c.call-next.ensures in
-    let front = subst (λ b. AppendsFront (g.C.Sink.written mid) (g.C.Sink.written new) b) c.as_slice.ensures c.write_all-in-loop-incoming.ensures.front in
+    let front = subst (λ b. AppendsFront (g.C.Sink.written mid) (g.C.Sink.written new) b) c.as_slice.ensures c.write_all.ensures.front in
     let goes = subst (λ x. Reaches (walk m) w.0 x) c.in-Answered.is w.2 in
     let e = comes_to_stop r look c.call-next.result.0 m w.0 c.call-next.result.2 found w.1 w.3 c.in-Answered.cause c.in-Answered.bytes c.in-Answered.closes goes
     c.in-Err-write_all.stop c.stopped_by.result c.stopped_by.ensures front
@@ -214,8 +215,8 @@ returns-then-closes-clause-served g c =
     let word = g.W.Words.fixed c.args.means.now.words in
     let read = sym (law mid) ∙ c.next_message.ensures.beside ∙ law at in
     let r = c.loop-incoming.invariant.running in
-    let new = c.write_all-in-loop-incoming.new.sink in
-    let wrote = sym (law' new) ∙ c.write_all-in-loop-incoming.ensures.beside ∙ law' mid in
+    let new = c.write_all.new.sink in
+    let wrote = sym (law' new) ∙ c.write_all.ensures.beside ∙ law' mid in
     let look : Looked moment word (told start) (told at) (told mid) (told new) c.loop-incoming.rest.bytes c.next_message.new.rest.bytes c.loop-incoming.number r.turns =
     record { so_far = r.said; takes = c.next_message.ensures.taken; unwritten = ap (λ p. p.0) read; unread = ap (λ p. p.0) wrote } in
     let m : Message = record { number = c.loop-incoming.number; too_large = c.in-Some.too_large; request = c.in-Some.request; moment = c.now.result; word = c.next.result } in
@@ -259,8 +260,8 @@ loop-incoming-preserved g c =
     let word = g.W.Words.fixed c.args.means.now.words in
     let read = sym (law mid) ∙ c.next_message.ensures.beside ∙ law at in
     let r = c.loop-incoming.invariant.running in
-    let new = c.write_all-in-loop-incoming.new.sink in
-    let wrote = sym (law' new) ∙ c.write_all-in-loop-incoming.ensures.beside ∙ law' mid in
+    let new = c.write_all.new.sink in
+    let wrote = sym (law' new) ∙ c.write_all.ensures.beside ∙ law' mid in
     let look : Looked moment word (told start) (told at) (told mid) (told new) c.loop-incoming.rest.bytes c.next_message.new.rest.bytes c.loop-incoming.number r.turns =
     record { so_far = r.said; takes = c.next_message.ensures.taken; unwritten = ap (λ p. p.0) read; unread = ap (λ p. p.0) wrote } in
     let m : Message = record { number = c.loop-incoming.number; too_large = c.in-Some.too_large; request = c.in-Some.request; moment = c.now.result; word = c.next.result } in
@@ -284,6 +285,6 @@ loop-incoming-preserved g c =
       words = c.next.ensures.same ∙ c.loop-incoming.invariant.words;
       backend = c.loop-incoming.invariant.backend;
       reads = omega (arith, c.loop-incoming.invariant.reads, c.next_message.ensures.later, reads);
-      writes = omega (arith, c.loop-incoming.invariant.writes, faults, c.write_all-in-loop-incoming.ensures.cause.later);
+      writes = omega (arith, c.loop-incoming.invariant.writes, faults, c.write_all.ensures.cause.later);
       running = runs_on r look c.call-next.result.0 m w.0 c.call-next.result.2 found w.1 w.3 c.in-Answered.cause c.in-Answered.bytes c.in-Answered.closes goes all c.if-closes.false;
     }

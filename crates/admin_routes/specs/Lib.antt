@@ -1,0 +1,8 @@
+-- the routes
+pub mod Routes
+-- what a body asks for
+pub mod Asked
+-- the answers
+pub mod Answers
+-- what a request asks of the book, or how it is answered
+pub mod Orders

@@ -1,3 +1,0 @@
-mod Going
-pub mod Once
-mod Taking

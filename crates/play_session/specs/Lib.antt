@@ -1,0 +1,2 @@
+-- the book of a play
+pub mod Sessions

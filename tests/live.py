@@ -385,6 +385,46 @@ def made_called_and_shut_down(other):
     expect("status and output", other.ends_by_itself(), (0, line))
 
 
+def a_stage_shows_its_deployment_and_its_variables(server):
+    """The guide's second and third steps, on the common program: they leave the stage that the other tests call unknown."""
+    steps = [
+        (request(b"PUT", b"/_admin/apis/greet/text", b"$stageVariables.greeting $input.body!"), DONE),
+        (request(b"POST", b"/_admin/apis/greet/deployments"), json_answer(b"200 OK", b'{"reply":"deployed 1"}')),
+        (request(b"PUT", b"/_admin/apis/greet/stages/formal", b"1 greeting=Good%20day,"), DONE),
+        (request(b"PUT", b"/_admin/apis/greet/stages/short", b"1 greeting=Hi"), DONE),
+        (request(b"POST", b"/greet/formal", b"Ann"), text_answer(b"Good day, Ann!")),
+        (request(b"POST", b"/greet/short", b"Ann"), text_answer(b"Hi Ann!")),
+        (request(b"PUT", b"/_admin/apis/greet/text", b"Hello, $input.body!"), DONE),
+        (request(b"POST", b"/greet/short", b"Ann"), text_answer(b"Hi Ann!")),
+        (request(b"POST", b"/_admin/apis/greet/deployments"), json_answer(b"200 OK", b'{"reply":"deployed 2"}')),
+        (request(b"PUT", b"/_admin/apis/greet/stages/short", b"2"), DONE),
+        (request(b"POST", b"/greet/short", b"Ann"), text_answer(b"Hello, Ann!")),
+        (request(b"POST", b"/greet/formal", b"Ann"), text_answer(b"Good day, Ann!")),
+        (request(b"PUT", b"/_admin/apis/greet/stages/short", b"1 greeting=Hi"), DONE),
+        (request(b"POST", b"/greet/short", b"Ann"), text_answer(b"Hi Ann!")),
+    ]
+    with Client(server.port) as client:
+        for asked, answer in steps:
+            client.calls(f"to {asked[:60]}", asked, answer)
+
+
+def the_examples_do_what_stands_beside_them(server):
+    """What the guide runs without a server, and the first call by curl."""
+    examples = f"{TOP}/examples"
+    expect("render", server.run("render", f"{examples}/greeting.vtl", f"{examples}/greeting.body"), (0, b"Dear Ann,\ngood morning.\n"))
+    expect("check", server.run("check", f"{examples}/orders.json"), (0, b"ok resources=3 methods=3 models=1\n"))
+    with open(f"{examples}/hello.script", "rb") as script, open(f"{examples}/hello.said", "rb") as said:
+        ended = subprocess.run([server.program, "play"], stdin=script, capture_output=True, timeout=WAIT)
+        expect("play", (ended.returncode, ended.stdout), (0, said.read()))
+    with socket.socket() as probe:
+        probe.bind(("127.0.0.1", 0))
+        port = probe.getsockname()[1]
+    ended = subprocess.run([f"{examples}/hello.sh", server.program, str(port)], stdin=subprocess.DEVNULL, capture_output=True, timeout=WAIT)
+    lines = b'{"reply":"done"}\n{"reply":"deployed 1"}\n{"reply":"done"}\nHi Ann!\n{"reply":"done"}\n'
+    line = b"session entries=10 calls=1 admitted=0 throttled=0 quota=0 notkept=0\n"
+    expect("hello.sh", (ended.returncode, sorted(ended.stdout.splitlines())), (0, sorted((lines + line).splitlines())))
+
+
 def words_that_are_no_command_end_with_2(server):
     for words in ((), ("bogus",), ("serve",), ("serve", "memory", "1"), ("serve", "memory", "port", "4")):
         expect(f"status and output of {words}", server.run(*words), (2, b"usage\n"))
@@ -409,6 +449,8 @@ TESTS = [
     clients_that_say_nothing_keep_their_own_lane_alone,
     a_second_program_at_the_port_ends_with_3,
     an_api_is_made_called_and_shut_down_over_http,
+    a_stage_shows_its_deployment_and_its_variables,
+    the_examples_do_what_stands_beside_them,
     words_that_are_no_command_end_with_2,
     the_program_still_runs,
 ]

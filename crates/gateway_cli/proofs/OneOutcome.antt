@@ -5,7 +5,7 @@ use Rattle.book_rules.specs.History.{Base}
 use Rattle.call_facts.specs.declared.request.WireReply.{WireReply}
 use Rattle.http_edge.proofs.ReplyUnique.{reply_unique}
 use Rattle.http_framing.specs.declared.fault.EdgeFault.{EdgeFault}
-use Rattle.gate_walk.proofs.Once.{comes_to_one_thing}
+use Rattle.gate_walk.specs.Told.{ComesToOneThing}
 use Rattle.play_script.specs.Calls.{IsWhole, IsOther, IsNoWhole, IsOutcome, IsNoOutcome, AreOutcomes, BreaksOutcomes}
 use Rattle.play_script.specs.Coding.{is_passed_over}
 use Rattle.gateway_cli.specs.Commands.{is_play, OutcomeBy, Outcome, OutcomeFrontBy, OutcomeFront, HasOneOutcome, FrontsAreOfTheOutcome}
@@ -60,12 +60,12 @@ behind_front None text further fronts front a each (rest, plays, is) (more, hold
     (inner.0, ap (λ f. f ++ inner.0) told ∙ append_assoc text more inner.0 ∙ ap (λ t. text ++ t) inner.1)
 behind_front (Some end) text further fronts front a each is none = absurd none
 
-module _ (base : Base) (told : IsSome base.start.planned) where
+module _ (law : ComesToOneThing) (base : Base) (told : IsSome base.start.planned) where
   -- lines
 
   talk_once : (history : List Entry) (moment word : ℕ) (bytes : List ℕ) (a b : Turn) → IsTalk base history moment word bytes a → IsTalk base history moment word bytes b → a ≡ b
   talk_once history moment word bytes a b (said, connects, is) (other, also, is_too) =
-      is ∙ ap talked (comes_to_one_thing base 0 moment word history bytes said other told connects also) ∙ sym is_too
+      is ∙ ap talked (law base 0 moment word history bytes said other told connects also) ∙ sym is_too
 
   does_once : (number : ℕ) (history : List Entry) (found : Record) (a b : Turn) → Does base number history found a → Does base number history found b → a ≡ b
   does_once number history (PutText moment api template) a b x y = x ∙ sym y
@@ -114,34 +114,34 @@ module _ (base : Base) (told : IsSome base.start.planned) where
 
 -- scripts and words
 
-played_by_once : (long : Bool) (script : List ℕ) (a b : Output) → PlayedBy long script a → PlayedBy long script b → a ≡ b
-played_by_once true script a b x y = x ∙ sym y
-played_by_once false script a b x y =
+played_by_once : ComesToOneThing → (long : Bool) (script : List ℕ) (a b : Output) → PlayedBy long script a → PlayedBy long script b → a ≡ b
+played_by_once law true script a b x y = x ∙ sym y
+played_by_once law false script a b x y =
     let opening = opening_of script in
-    plays_once (base_of session_limits opening.fails) tt opening.number [] opening.lines a b x.1 y.1
+    plays_once law (base_of session_limits opening.fails) refl opening.number [] opening.lines a b x.1 y.1
 
-played_front_by : (long : Bool) (script front : List ℕ) (a : Output) → PlayedBy long script a → PlayedFrontBy long script front → IsFront front a.text
-played_front_by true script front a is f = subst (λ (o : Output). IsFront front o.text) (sym is) f
-played_front_by false script front a plays f =
+played_front_by : ComesToOneThing → (long : Bool) (script front : List ℕ) (a : Output) → PlayedBy long script a → PlayedFrontBy long script front → IsFront front a.text
+played_front_by law true script front a is f = subst (λ (o : Output). IsFront front o.text) (sym is) f
+played_front_by law false script front a plays f =
     let opening = opening_of script in
-    plays_front_once (base_of session_limits opening.fails) tt opening.number [] opening.lines front a
+    plays_front_once law (base_of session_limits opening.fails) refl opening.number [] opening.lines front a
     (subst (λ named. OpenedFrontBy named session_limits opening front) plays.0 f) plays.1
 
-outcome_by_once : (play : Bool) (words : List (List ℕ)) (input : List ℕ) (files : Files) (a b : Output) → OutcomeBy play words input files a → OutcomeBy play words input files b → a ≡ b
+outcome_by_once : ComesToOneThing → (play : Bool) (words : List (List ℕ)) (input : List ℕ) (files : Files) (a b : Output) → OutcomeBy play words input files a → OutcomeBy play words input files b → a ≡ b
 unfolding Played
-outcome_by_once true words input files a b x y = played_by_once _ input a b x y
-outcome_by_once false words input files a b x y = x ∙ sym y
+outcome_by_once law true words input files a b x y = played_by_once law _ input a b x y
+outcome_by_once law false words input files a b x y = x ∙ sym y
 
-outcome_front_by : (play : Bool) (words : List (List ℕ)) (input : List ℕ) (files : Files) (a : Output) (front : List ℕ)
+outcome_front_by : ComesToOneThing → (play : Bool) (words : List (List ℕ)) (input : List ℕ) (files : Files) (a : Output) (front : List ℕ)
     → OutcomeBy play words input files a → OutcomeFrontBy play words input files front → IsFront front a.text
 unfolding Played PlayedFront
-outcome_front_by true words input files a front plays f = played_front_by _ input front a plays f
-outcome_front_by false words input files a front is f = subst (λ (o : Output). IsFront front o.text) (sym is) f
+outcome_front_by law true words input files a front plays f = played_front_by law _ input front a plays f
+outcome_front_by law false words input files a front is f = subst (λ (o : Output). IsFront front o.text) (sym is) f
 
-pub one_outcome : HasOneOutcome
+pub one_outcome : ComesToOneThing → HasOneOutcome
 unfolding Outcome
-one_outcome words input files first second x y = outcome_by_once (is_play words) words input files first second x y
+one_outcome law words input files first second x y = outcome_by_once law (is_play words) words input files first second x y
 
-pub fronts_of_the_outcome : FrontsAreOfTheOutcome
+pub fronts_of_the_outcome : ComesToOneThing → FrontsAreOfTheOutcome
 unfolding Outcome OutcomeFront
-fronts_of_the_outcome words input files output front x y = outcome_front_by (is_play words) words input files output front x y
+fronts_of_the_outcome law words input files output front x y = outcome_front_by law (is_play words) words input files output front x y

@@ -1,0 +1,11 @@
+-- the best of the paths that match
+pub mod Best
+-- a text without the blanks at its ends
+pub mod Ends
+-- parts of a path
+pub mod Parted
+pub mod Least
+-- what holds of routes
+pub mod Routed
+-- the tree of a definition's resources
+pub mod Trees

@@ -1,0 +1,29 @@
+//! Tests of what a request is checked by, by public calls alone: where it goes, the token that it hands to an authorizer,
+//! and what it fails by.
+//!
+//! ```text
+//! ("POST", "/x/s/a/%62/", "POST /a/b")       // a row: a verb, a target, and the method and the resource that it hits
+//! ```
+//!
+//! | File | What its tables hold |
+//! |---|---|
+//! | `calls.rt` | no tests: how a definition and a call are made |
+//! | `routes.rt` | verbs and targets, with the method, the resource and the parameters that they hit |
+//! | `tokens.rt` | header fields, with the token that they have |
+//! | `validation.rt` | calls, with the message that tells what they fail by |
+//! | `media.rt` | content types, with their media type |
+//!
+//! Nothing is promised here: `method_checks` says what its calls answer, and this crate that they succeed, and that the
+//! answers are what was meant. The cases come from `docs/DEFINITION.md` and from the API Gateway Developer Guide.
+#![tactic(auto)]
+
+#[cfg(test)]
+mod calls;
+#[cfg(test)]
+mod media;
+#[cfg(test)]
+mod routes;
+#[cfg(test)]
+mod tokens;
+#[cfg(test)]
+mod validation;

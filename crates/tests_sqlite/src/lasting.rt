@@ -1,5 +1,5 @@
 // Rows that are kept, and there again for the next keeper.
-ghost use Rattle.std.specs.Prelude.{◌≡◌, []};
+ghost use Rattle.std.specs.Prelude.{◌≡◌, [], IfOk};
 
 use crate::rows::{Given, join, row, show};
 use gw_base::Memory;
@@ -22,6 +22,22 @@ fn outcome(kept: Result<(), KeepFault>) -> Did {
         Ok(()) => Did::Kept,
         Err(KeepFault::Failed) => Did::Failed,
         Err(KeepFault::Memory) => Did::Memory,
+    }
+}
+
+// A keeper can be lent to another thread.
+fn sent<K: Keeper + Send>(keeper: K) -> K
+    ensures { result ≡ keeper }
+{
+    keeper
+}
+
+pub(crate) fn start(rt: &HostRuntime, path: &str) -> Result<SqliteKeeper, Memory>
+    ensures { IfOk result (λ keeper. keeper.staged ≡ []) }
+{
+    match SqliteKeeper::start(rt, path) {
+        Ok(keeper) => Ok(sent(keeper)),
+        Err(_) => Err(Memory),
     }
 }
 
@@ -98,7 +114,7 @@ const SHOWN: &str =
 fn rows_of_every_table_outlive_the_keeper(rt: HostRuntime) -> Result<(), Fail> {
     let alloc = rt.alloc();
     folder(&rt, "tests_sqlite_rows")?;
-    let mut keeper = SqliteKeeper::start(&rt, "tests_sqlite_rows/a").unwrap();
+    let mut keeper = start(&rt, "tests_sqlite_rows/a")?;
     assert_eq!(rt; loaded(&mut keeper, alloc)?.as_str(), "meta 0 1\n");
     for given in ODD {
         assert_eq!(rt; commit(&mut keeper, alloc, &[given]), Did::Kept);
@@ -157,7 +173,7 @@ const COMMITS: [(&[Given], Did, &str); 8] = [
 fn a_commit_keeps_all_or_nothing(rt: HostRuntime) -> Result<(), Fail> {
     let alloc = rt.alloc();
     folder(&rt, "tests_sqlite_commits")?;
-    let mut keeper = SqliteKeeper::start(&rt, "tests_sqlite_commits/a").unwrap();
+    let mut keeper = start(&rt, "tests_sqlite_commits/a")?;
     for (given, kept, keys) in COMMITS {
         assert_eq!(rt; commit(&mut keeper, alloc, given), kept);
         let shown = format!(in alloc; "meta 0 1\n{keys}")?;
@@ -171,7 +187,7 @@ fn a_commit_keeps_all_or_nothing(rt: HostRuntime) -> Result<(), Fail> {
 fn a_join_is_rewritten_alone(rt: HostRuntime) -> Result<(), Fail> {
     let alloc = rt.alloc();
     folder(&rt, "tests_sqlite_rewrites")?;
-    let mut keeper = SqliteKeeper::start(&rt, "tests_sqlite_rewrites/a").unwrap();
+    let mut keeper = start(&rt, "tests_sqlite_rewrites/a")?;
     let given = [Given::Join("p", "a", 1, 0), Given::Join("p", "b", 2, 0)];
     assert_eq!(rt; commit(&mut keeper, alloc, &given), Did::Kept);
     assert_eq!(rt;

@@ -46,7 +46,7 @@ fn the_first_bad_row_is_named(rt: HostRuntime) -> Result<(), Fail> {
         let _ = fs::remove_file(&rt, "tests_sqlite_past/a-wal");
         assert_eq!(rt; found(&rt, "tests_sqlite_past/a")?.as_str(), "meta 0 1\n");
         let whole = format!(in rt.alloc(); "{PLANS}; {sql}")?;
-        assert!(rt; run(&rt, "tests_sqlite_past/a", &whole).is_ok(), "{sql}");
+        assert!(rt; run(&rt, "tests_sqlite_past/a", &whole), "{sql}");
         assert_eq!(rt;
             found(&rt, "tests_sqlite_past/a")?.as_str(),
             answer,

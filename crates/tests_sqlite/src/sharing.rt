@@ -1,8 +1,7 @@
 // A second keeper of the same file, and what a copy of the files holds.
-use crate::lasting::{Did, commit, folder, found, loaded};
+use crate::lasting::{Did, commit, folder, found, loaded, start};
 use crate::rows::Given;
-use keeper_sqlite::SqliteKeeper;
-use sqlite::Connection;
+use crate::starting::run;
 use std::fs;
 use std::test::Fail;
 
@@ -10,13 +9,13 @@ use std::test::Fail;
 fn a_file_that_is_open_is_refused(rt: HostRuntime) -> Result<(), Fail> {
     let alloc = rt.alloc();
     folder(&rt, "tests_sqlite_open")?;
-    let mut keeper = SqliteKeeper::start(&rt, "tests_sqlite_open/a").unwrap();
+    let mut keeper = start(&rt, "tests_sqlite_open/a")?;
     assert_eq!(rt;
         commit(&mut keeper, alloc, &[Given::Key("a", "1", 1)]),
         Did::Kept
     );
     assert_eq!(rt; found(&rt, "tests_sqlite_open/a")?.as_str(), "StoreFault");
-    assert!(rt; Connection::open(&rt, "tests_sqlite_open/a").is_err());
+    assert!(rt; !run(&rt, "tests_sqlite_open/a", "DELETE FROM keys"));
     assert_eq!(rt;
         commit(&mut keeper, alloc, &[Given::Key("b", "2", 1)]),
         Did::Kept
@@ -39,7 +38,7 @@ fn a_file_that_is_open_is_refused(rt: HostRuntime) -> Result<(), Fail> {
 fn a_stop_leaves_what_was_committed(rt: HostRuntime) -> Result<(), Fail> {
     let alloc = rt.alloc();
     folder(&rt, "tests_sqlite_stop")?;
-    let mut keeper = SqliteKeeper::start(&rt, "tests_sqlite_stop/a").unwrap();
+    let mut keeper = start(&rt, "tests_sqlite_stop/a")?;
     assert_eq!(rt;
         commit(&mut keeper, alloc, &[Given::Key("a", "1", 1)]),
         Did::Kept

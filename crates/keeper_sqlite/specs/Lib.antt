@@ -4,5 +4,7 @@ pub mod Answers
 pub mod Columns
 -- what contracts see of a keeper over a file
 pub mod Stands
+-- what a change makes of the file
+pub mod Steps
 -- which version a store is of
 pub mod Version

@@ -2,7 +2,9 @@
 ghost use Rattle.std.specs.Prelude.{◌≡◌, false, true, All, IfOk, IfErr};
 ghost use Rattle.keeper_sqlite.specs.Answers.{IsOfTable};
 ghost use Rattle.keeper_sqlite.specs.Columns.{can_be_written};
+ghost use Rattle.keeper_sqlite.specs.Steps.{IsInside, IsOneStep};
 ghost use Rattle.keeper_sqlite.specs.Version.{IsOfMeta};
+ghost use Rattle.sqlite.specs.Files.{file_state};
 
 use crate::fault::{StartFault, keep_fault, load_fault, start_fault};
 use crate::loading::put_answer;
@@ -101,6 +103,7 @@ pub(crate) fn load_tables(alloc: Global, conn: &mut Database) -> Result<Tables, 
 
 fn write(change: &mut Change<'_>, table: Table, values: &[ValueRef<'_>]) -> Result<(), KeepFault>
     ensures same_reference { change.new.conn.ghost_name ≡ change.old.conn.ghost_name }
+    ensures inside { IsInside (file_state change.old.conn.now) (file_state change.new.conn.now) }
 {
     match change.execute(upsert_into(table), values) {
         Ok(_) => Ok(()),
@@ -111,13 +114,26 @@ fn write(change: &mut Change<'_>, table: Table, values: &[ValueRef<'_>]) -> Resu
 fn write_row(alloc: Global, change: &mut Change<'_>, row: &Row) -> Result<(), KeepFault>
     requires { can_be_written row.now ≡ true }
     ensures same_reference { change.new.conn.ghost_name ≡ change.old.conn.ghost_name }
+    ensures inside { IsInside (file_state change.old.conn.now) (file_state change.new.conn.now) }
 {
     let values = values_of(alloc, row)?;
     write(change, row.table(), &values)
 }
 
+fn write_each(alloc: Global, change: &mut Change<'_>, rows: &[Row]) -> Result<(), KeepFault>
+    requires { All (λ row. can_be_written row ≡ true) rows.now }
+    ensures same_reference { change.new.conn.ghost_name ≡ change.old.conn.ghost_name }
+    ensures inside { IsInside (file_state change.old.conn.now) (file_state change.new.conn.now) }
+{
+    for row in rows {
+        write_row(alloc, change, row)?;
+    }
+    Ok(())
+}
+
 fn finish(change: Change<'_>) -> Result<(), KeepFault>
-    ensures { change.exit.0.now.in_transaction ≡ false }
+    ensures closed { change.exit.0.now.in_transaction ≡ false }
+    ensures step { IsOneStep (file_state change.entry.conn.now) (file_state change.exit.0.now) result }
 {
     match change.commit() {
         Ok(()) => Ok(()),
@@ -129,25 +145,33 @@ fn finish(change: Change<'_>) -> Result<(), KeepFault>
 pub(crate) fn write_rows(alloc: Global, conn: &mut Database, rows: &[Row]) -> Result<(), KeepFault>
     requires closed { conn.old.in_transaction ≡ false }
     requires fit { All (λ row. can_be_written row ≡ true) rows.now }
-    ensures { conn.new.in_transaction ≡ false }
+    ensures closed { conn.new.in_transaction ≡ false }
+    ensures step { IsOneStep (file_state conn.old) (file_state conn.new) result }
 {
     let mut change = conn.transaction();
-    for row in rows {
-        write_row(alloc, &mut change, row)?;
-    }
+    write_each(alloc, &mut change, rows)?;
+    finish(change)
+}
+
+fn write_alone(conn: &mut Database, table: Table, values: &[ValueRef<'_>]) -> Result<(), KeepFault>
+    requires { conn.old.in_transaction ≡ false }
+    ensures closed { conn.new.in_transaction ≡ false }
+    ensures step { IsOneStep (file_state conn.old) (file_state conn.new) result }
+{
+    let mut change = conn.transaction();
+    write(&mut change, table, values)?;
     finish(change)
 }
 
 /// Writes a join row in a transaction of its own, where its numbers can be written.
 pub(crate) fn write_join(alloc: Global, conn: &mut Database, row: &JoinRow) -> Result<(), KeepFault>
     requires { conn.old.in_transaction ≡ false }
-    ensures { conn.new.in_transaction ≡ false }
+    ensures closed { conn.new.in_transaction ≡ false }
+    ensures step { IsOneStep (file_state conn.old) (file_state conn.new) result }
 {
     if !join_can_be_written(row) {
         return Err(KeepFault::Failed);
     }
     let values = join_values(alloc, row)?;
-    let mut change = conn.transaction();
-    write(&mut change, Table::Joins, &values)?;
-    finish(change)
+    write_alone(conn, Table::Joins, &values)
 }

@@ -77,13 +77,32 @@ impl SqliteKeeper {
     {
         let alloc = rt.alloc();
         let mut conn = open(rt, path)?;
-        prepare(alloc, &mut conn)?;
-        Ok(SqliteKeeper {
-            conn,
-            staged: Vec::new(alloc),
-            faults: 0,
-            loads: 0,
-        })
+        match prepare(alloc, &mut conn) {
+            Ok(()) => Ok(SqliteKeeper {
+                conn,
+                staged: Vec::new(alloc),
+                faults: 0,
+                loads: 0,
+            }),
+            Err(fault) => {
+                let _ = conn.close();
+                Err(fault)
+            }
+        }
+    }
+
+    /// How often a call has failed, up to the count's greatest value.
+    pub fn faults(&self) -> u64
+        ensures { result ≡ self.now.faults }
+    {
+        self.faults
+    }
+
+    /// How often a load has failed, up to the count's greatest value.
+    pub fn loads(&self) -> u64
+        ensures { result ≡ self.now.loads }
+    {
+        self.loads
     }
 
     /// Stages a row, behind those that are staged. It fails exactly where a number of the row is above

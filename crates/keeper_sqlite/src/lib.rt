@@ -29,9 +29,13 @@
 //!
 //! What is promised: what `keeper_core` promises of every keeper that tells neither its tables nor which calls fail: what is
 //! staged after each call, that a fault comes only where its count rose, and that want of memory raises none. That `put_row`
-//! fails exactly where a number can't be written, by [`SqliteKeeper::stage`]. Inside, that the values of a row that are
-//! written and those that are read are the same columns; that a row which is named is the first of its answer that can
-//! be no row of its table; and that no transaction is open between two calls.
+//! fails exactly where a number can't be written, by [`SqliteKeeper::stage`].
+//!
+//! Inside: that the values of a row that are written and those that are read are the same columns; that a row which is named is
+//! the first of its answer that can be no row of its table; that no transaction is open between two calls; and, by the clauses
+//! of the crate `sqlite`, that a commit or a rewrite is one step. A crash at any moment of it leaves what one before could
+//! leave, or one certain database; and, where the disk has returned what was written, that database is what is committed where
+//! the change is kept, and what was committed stays where it is refused.
 //!
 //! What is not: what the file holds. No clause says that a row which was written is there again: a test shows it, and
 //! `docs/STORE.md` describes the file. What a column may hold beside its form, as a rate without a burst, is for the crates

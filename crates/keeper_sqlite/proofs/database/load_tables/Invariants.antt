@@ -1,0 +1,6 @@
+use Rattle.std.proofs.Common.{◌≡◌, false}
+use Rattle.keeper_sqlite.proofs.database.load_tables.Given as goal
+
+-- no transaction is open
+abbrev pub invariant-loop-table : goal.invariant-loop-table
+invariant-loop-table l = l.conn.in_transaction ≡ false

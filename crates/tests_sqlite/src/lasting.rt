@@ -25,18 +25,11 @@ fn outcome(kept: Result<(), KeepFault>) -> Did {
     }
 }
 
-// A keeper can be lent to another thread.
-fn sent<K: Keeper + Send>(keeper: K) -> K
-    ensures { result ≡ keeper }
-{
-    keeper
-}
-
 pub(crate) fn start(rt: &HostRuntime, path: &str) -> Result<SqliteKeeper, Memory>
     ensures { IfOk result (λ keeper. keeper.staged ≡ []) }
 {
     match SqliteKeeper::start(rt, path) {
-        Ok(keeper) => Ok(sent(keeper)),
+        Ok(keeper) => Ok(keeper),
         Err(_) => Err(Memory),
     }
 }

@@ -7,6 +7,7 @@
 
 use gateway_cli::run;
 use gateway_machine::{MachineOutside, ReaderSource, WriterSink};
+use gateway_stores::FileStores;
 use gw_base::{Text, write_all};
 use std::alloc::Global;
 use std::env;
@@ -30,6 +31,7 @@ fn words_of(rt: &(impl Env + AllocGlobal), alloc: Global) -> Vec<Text> {
 /// What is said on standard error of words that are no command.
 const USAGE: &[u8] = b"usage: gateway COMMAND
   serve STORE PORT LANES    serves 127.0.0.1:PORT, over 1 to 8 lanes
+  admin STORE               carries out the commands on standard input
   play                      plays the script on standard input
   check FILE                tells whether a file is the definition of an API
   render TEMPLATE BODY      prints what a template gives over a body
@@ -40,7 +42,7 @@ fn main(rt: HostRuntime) -> ExitCode {
     let words = words_of(&rt, alloc);
     let mut input = ReaderSource::new(rt.stdin());
     let mut output = WriterSink::new(rt.stdout());
-    let mut outside = MachineOutside::new(&rt, alloc, rt.stderr());
+    let mut outside = MachineOutside::new(&rt, alloc, FileStores::new(&rt), rt.stderr());
     let status = run(&rt, alloc, &words, &mut input, &mut output, &mut outside);
     if status == 2 {
         let _ = write_all(&mut WriterSink::new(rt.stderr()), USAGE);

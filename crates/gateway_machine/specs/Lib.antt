@@ -1,2 +1,2 @@
--- what contracts see of the machine, of its keepers and of its ports
+-- what contracts see of the machine and of its ports
 pub mod Stands

@@ -1,11 +1,10 @@
--- What contracts see of the machine, and of its keepers.
-use Rattle.std.specs.Prelude.{◌≡◌, ℕ, nat_lt, Bool, false, List, []}
+-- What contracts see of the machine, and of its ports.
+use Rattle.std.specs.Prelude.{◌≡◌, ℕ, nat_lt, Bool, false, List}
 use Rattle.gw_base.specs.declared.readings.SplitMix.{SplitMix}
 use Rattle.backend_core.specs.Script.{BackendFacts}
 use Rattle.gate_ports.specs.declared.gate.FreeGate.{FreeGate}
 use Rattle.gate_ports.specs.declared.lane.Lane.{Lane}
 use Rattle.gateway_outside.specs.Stands.{PortStand}
-use Rattle.keeper_core.specs.Keeping.{MemFacts}
 
 -- the names of the stores whose keepers are lent, the one that was lent last first; how many lanes are lent; and how often it has failed
 pub record MachineStand : Type 0 where
@@ -17,12 +16,6 @@ pub record MachineStand : Type 0 where
 pub record Counted (P : Type 0) : Type 0 where
   pub port : P
   pub faults : ℕ
-
--- no call of the keeper has failed, and none is to fail
-pub record NeverFails (keeper : MemFacts) : Type 0 where
-  pub fails : keeper.planned.fails ≡ []
-  pub faults : keeper.faults ≡ 0
-  pub loads : keeper.loads ≡ 0
 
 -- a lane over sockets, whose times are of this type
 abbrev pub SocketLane : Type 0 → Type 0

@@ -8,8 +8,8 @@ ghost use Rattle.gateway_outside.specs.Stands.{IsFresh};
 ghost use Rattle.outside_core.specs.Lending.{RoseWhere};
 
 use crate::adapters::{ReaderSource, WriterSink};
-use crate::keeper::PassingKeeper;
 use crate::port::CountedPort;
+use crate::stores::Stores;
 use backend_core::MemBackend;
 use gate_ports::{Archive, FreeGate, Lane, Means};
 use gateway_outside::{ListenFault, SocketPort, SystemClock, announce, begin_words, listen};
@@ -31,12 +31,13 @@ type SocketLane<'r, R> = Lane<
     FreeGate,
 >;
 
-/// The machine: its files, lanes over its sockets, and for each store a keeper in memory. It says on `log` where it listens,
-/// and which file or port it could not have.
+/// The machine: its files, lanes over its sockets, and its stores. It says on `log` where it listens, and which file, store or
+/// port it could not have.
 /// It lets go of the keepers, the lanes and the histories that it is given.
 #[derive(Drop)]
-pub struct MachineOutside<'r, R, W: Write + Drop> {
+pub struct MachineOutside<'r, R, S: Drop, W: Write + Drop> {
     rt: &'r R,
+    stores: S,
     log: WriterSink<W>,
     // The names of the stores whose keepers are lent, the last of them first.
     keepers_out: Vec<Text>,
@@ -44,7 +45,7 @@ pub struct MachineOutside<'r, R, W: Write + Drop> {
     faults: u64,
 }
 
-impl<'r, R, W: Write + Drop> Model for MachineOutside<'r, R, W> {
+impl<'r, R, S: Drop, W: Write + Drop> Model for MachineOutside<'r, R, S, W> {
     ghost use Rattle.gateway_machine.specs.Stands.{MachineStand};
 
     ghost Value = { MachineStand };
@@ -52,13 +53,14 @@ impl<'r, R, W: Write + Drop> Model for MachineOutside<'r, R, W> {
     ghost view = { λ o. record { keepers_out = o.keepers_out.items; lanes_out = o.lanes_out; faults = o.faults } };
 }
 
-impl<'r, R, W: Write + Drop> MachineOutside<'r, R, W> {
-    /// The machine of this runtime, of which nothing was asked.
-    pub fn new(rt: &'r R, alloc: Global, log: W) -> Self
+impl<'r, R, S: Drop, W: Write + Drop> MachineOutside<'r, R, S, W> {
+    /// The machine of this runtime with these stores, of which nothing was asked.
+    pub fn new(rt: &'r R, alloc: Global, stores: S, log: W) -> Self
         ensures { result ≡ record { keepers_out = []; lanes_out = 0; faults = 0 } }
     {
         MachineOutside {
             rt,
+            stores,
             log: WriterSink::new(log),
             keepers_out: Vec::new(alloc),
             lanes_out: 0,
@@ -134,7 +136,7 @@ fn has_failed<'r, R: Clock>(lanes: &[SocketLane<'r, R>]) -> bool
     lanes.iter().any(|lane| lane.port.faults() > 0)
 }
 
-impl<'r, E: Drop, R, W: Write + Drop> Archive<E> for MachineOutside<'r, R, W> {
+impl<'r, E: Drop, R, S: Drop, W: Write + Drop> Archive<E> for MachineOutside<'r, R, S, W> {
     ghost Beside = { MachineStand };
 
     ghost sessions = { λ _. None };
@@ -152,9 +154,10 @@ impl<
     'r,
     E: Drop,
     R: Files + Net<Listener = TcpListener, Stream = TcpStream> + Clock + Sync,
+    S: Stores + Drop,
     W: Write + Drop,
-> Outside<E> for MachineOutside<'r, R, W> {
-    type Keep = PassingKeeper;
+> Outside<E> for MachineOutside<'r, R, S, W> {
+    type Keep = S::Keep;
 
     type Door = CountedPort<SocketPort<'r, R>>;
 
@@ -199,14 +202,25 @@ impl<
         read
     }
 
-    fn keeper(&mut self, alloc: Global, name: &str) -> Result<PassingKeeper, KeeperStart> {
-        let Ok(name) = String::from_str(alloc, name) else {
+    fn keeper(&mut self, alloc: Global, name: &str) -> Result<S::Keep, KeeperStart> {
+        let Ok(lent) = String::from_str(alloc, name) else {
             return Err(KeeperStart::Memory);
         };
-        if self.keepers_out.insert(0, Text::of(name)).is_err() {
-            return Err(KeeperStart::Memory);
+        match self.stores.open(alloc, name) {
+            Ok(keep) => match self.keepers_out.insert(0, Text::of(lent)) {
+                Ok(()) => Ok(keep),
+                Err(_) => Err(KeeperStart::Memory),
+            },
+            Err(KeeperStart::Memory) => Err(KeeperStart::Memory),
+            Err(KeeperStart::StoreFault) => {
+                self.complain(format!(in alloc; "cannot open the store {name}\n"));
+                Err(KeeperStart::StoreFault)
+            }
+            Err(KeeperStart::BadStore(table, row)) => {
+                self.fail();
+                Err(KeeperStart::BadStore(table, row))
+            }
         }
-        Ok(PassingKeeper::new(alloc))
     }
 
     fn lanes(
@@ -236,9 +250,11 @@ impl<
         Ok(lanes)
     }
 
-    fn keeper_back(&mut self, _name: &str, keep: PassingKeeper) {
-        keep.never_failed();
+    fn keeper_back(&mut self, _name: &str, keep: S::Keep) {
         self.keepers_out.remove(0);
+        if S::has_failed(&keep) {
+            self.fail();
+        }
     }
 
     fn lanes_back(&mut self, lanes: Vec<SocketLane<'r, R>>)

@@ -43,7 +43,8 @@ fn command<R: Wait>(
     }
 }
 
-fn refuse(alloc: Global, number: u64, fault: LineFault) -> Result<Said, Memory>
+/// The line of this number is refused, and nothing is carried out behind it.
+pub fn refuse(alloc: Global, number: u64, fault: LineFault) -> Result<Said, Memory>
     ensures { IfOk result (λ said. said ≡ record { text = refused_line_of number fault; ends = Some End.Refused }) }
 {
     Ok(Said {

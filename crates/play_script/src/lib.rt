@@ -26,7 +26,9 @@
 //! or a front of it where a write is refused or memory is wanting; where the script's `keepfails` names the load, nothing is, and
 //! just that is told (`opening_of`, `names_load`); `specs/Coding.antt` says which lines it has,
 //! `specs/Records.antt` which records they are, and `specs/Printed.antt` and `specs/Calls.antt` what is printed.
-//! [`join`] puts parts of a line together. Fields are coded and read by `record_fields`.
+//! [`join`] puts parts of a line together. Fields are coded and read by `record_fields`. The lines of a script, their records and
+//! what is printed of a command stand apart ([`first_line`], [`record_in`], [`reply_line`], [`refuse`]): the command `admin` takes
+//! them too.
 #![tactic(auto)]
 
 mod calls;
@@ -42,6 +44,12 @@ mod records;
 mod stops;
 mod turns;
 
+pub use calls::refuse;
+pub use fields::{first_line, is_passed_over};
 pub use joining::join;
 pub use play::play_within;
+pub use printed::{full_line, reply_line};
+pub use reading::record_in;
+pub use records::{LineFault, Record};
 pub use stops::PlayStop;
+pub use turns::{End, Said};

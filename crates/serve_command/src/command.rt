@@ -6,7 +6,7 @@ ghost use Rattle.serve_command.specs.Ends.{stop_by_lending};
 ghost use Rattle.serve_command.specs.Shelves.{Shelves, AllIsBack};
 
 use crate::hold::{give_up, hold};
-use crate::open::open;
+use crate::open::open_book;
 use crate::stop::ServeStop;
 use crate::tell::{tell, tell_unopened};
 use book_rules::{Entry, Limits};
@@ -61,7 +61,7 @@ where
     ensures output { IsErrOf result ServeStop.Output → Rose (W.faults output.old) (W.faults output.new) × OutputFails limits asked.now.store.now asked.now.lanes (record { stores = O.stores outside.old; waiting = O.waiting outside.old; kept_back = O.kept_back outside.old; returned = O.returned outside.old; sessions = O.Archive.sessions outside.old; faults = O.faults outside.old; keepers_out = O.keepers_out outside.old; lanes_out = O.lanes_out outside.old }) (record { stores = O.stores outside.new; waiting = O.waiting outside.new; kept_back = O.kept_back outside.new; returned = O.returned outside.new; sessions = O.Archive.sessions outside.new; faults = O.faults outside.new; keepers_out = O.keepers_out outside.new; lanes_out = O.lanes_out outside.new }) (W.written output.old) (W.written output.new) }
     ensures back { AllIsBack (record { stores = O.stores outside.old; waiting = O.waiting outside.old; kept_back = O.kept_back outside.old; returned = O.returned outside.old; sessions = O.Archive.sessions outside.old; faults = O.faults outside.old; keepers_out = O.keepers_out outside.old; lanes_out = O.lanes_out outside.old }) (record { stores = O.stores outside.new; waiting = O.waiting outside.new; kept_back = O.kept_back outside.new; returned = O.returned outside.new; sessions = O.Archive.sessions outside.new; faults = O.faults outside.new; keepers_out = O.keepers_out outside.new; lanes_out = O.lanes_out outside.new }) }
 {
-    let book = match open(alloc, outside, asked.store, limits) {
+    let book = match open_book(alloc, outside, asked.store, limits) {
         Ok(book) => book,
         Err(stop) => return tell_unopened(alloc, output, stop),
     };

@@ -33,4 +33,6 @@ mod stop;
 mod tell;
 
 pub use command::{Asked, serve};
+pub use open::{OpenStop, open_book};
 pub use stop::ServeStop;
+pub use tell::{stop_of, tell_unopened};

@@ -1,5 +1,5 @@
 // What is printed behind a session.
-ghost use Rattle.std.specs.Prelude.{◌≡◌, ◌≢◌, ◌++◌, true, false, Err, IfOk, IsErrOf};
+ghost use Rattle.std.specs.Prelude.{◌≡◌, ◌≢◌, ◌⊎◌, ◌++◌, true, false, Err, IfOk, IsErrOf};
 ghost use Rattle.std.specs.Io.KnownBytes.{Appends};
 ghost use Rattle.std.specs.List.{list_any};
 ghost use Rattle.gw_base.specs.Outside.{Rose};
@@ -15,7 +15,8 @@ use gate_walk::{LaneEnd, SessionFull};
 use gw_base::{Sink, Text, WriteStop, write_all};
 use std::alloc::Global;
 
-fn stop_of(stop: WriteStop) -> ServeStop
+/// Why serving stops where a write was stopped.
+pub fn stop_of(stop: WriteStop) -> ServeStop
     ensures { result ≡ stopped_by stop }
 {
     match stop {
@@ -34,7 +35,7 @@ fn status_of(full: Option<SessionFull>) -> u8
 }
 
 /// Writes why no book opened.
-pub(crate) fn tell_unopened<W: Sink>(
+pub fn tell_unopened<W: Sink>(
     alloc: Global,
     output: &mut W,
     stop: OpenStop,
@@ -43,6 +44,9 @@ pub(crate) fn tell_unopened<W: Sink>(
     ensures keeper { IsErrOf result ServeStop.Keeper → (stop ≡ OpenStop.Keeper) × (W.written output.new ≡ W.written output.old) }
     ensures port { result ≢ Err ServeStop.Port }
     ensures output { IsErrOf result ServeStop.Output → Rose (W.faults output.old) (W.faults output.new) × IfBadStore stop (λ line. AppendsFront (W.written output.old) (W.written output.new) line) }
+
+    // Where memory is wanting a front of the line is written, or nothing is.
+    ensures memory { IsErrOf result ServeStop.Memory → IfBadStore stop (λ line. AppendsFront (W.written output.old) (W.written output.new) line) ⊎ (W.written output.new ≡ W.written output.old) }
 {
     let (table, row) = match stop {
         OpenStop::BadStore(table, row) => (table, row),

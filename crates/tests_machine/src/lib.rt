@@ -5,6 +5,7 @@
 //! | `lending` | a keeper and lanes that are lent by any outside and given back, each call failing in its turn |
 //! | `in_memory` | what an outside in memory holds afterwards |
 //! | `over_sockets` | lanes that listen at a free port of the loopback, and the line that says so |
+//! | `stores` | a store that can't be opened, and one with a bad row, counted and said |
 #![tactic(auto)]
 
 #[cfg(test)]
@@ -13,3 +14,7 @@ mod in_memory;
 mod lending;
 #[cfg(test)]
 mod over_sockets;
+#[cfg(test)]
+mod passing;
+#[cfg(test)]
+mod stores;

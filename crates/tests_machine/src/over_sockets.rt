@@ -1,5 +1,6 @@
 // Lanes over sockets of the loopback.
 use crate::lending::{Lent, lend};
+use crate::passing::PassingStores;
 use gateway_machine::MachineOutside;
 use std::test::Fail;
 
@@ -7,7 +8,7 @@ use std::test::Fail;
 fn lanes_listen_at_a_free_port(rt: HostRuntime) -> Result<(), Fail> {
     let alloc = rt.alloc();
     let mut log = Vec::new(alloc);
-    let mut outside = MachineOutside::new(&rt, alloc, &mut log);
+    let mut outside = MachineOutside::new(&rt, alloc, PassingStores, &mut log);
     assert_eq!(rt;
         lend::<u64, _>(alloc, &mut outside, "a", 2),
         Lent::KeeperAndLanes

@@ -25,7 +25,7 @@ returns-clause-ends g c =
     let told : Lane g.row.O-Door.Denot g.row.O-Back.Denot g.row.O-Time.Denot g.row.O-Draw.Denot g.row.O-Hold.Denot → LaneTold = λ l. told_of (g.O.Door.Port.coming l.port) (g.O.Door.Port.served l.port) (g.O.Back.Backend.sent l.means.backend) (g.O.Back.Backend.given l.means.backend) (g.O.Time.Clock.fixed l.means.clock) (g.O.Draw.Words.fixed l.means.words) (g.O.Door.Port.closed l.port) (g.O.Door.Port.out l.port) (g.O.Door.Port.faults l.port) in
     let lanes = c.in-Ok-lanes.lanes.items in
     let first : Shelves = record { stores = g.O.Outside.stores c.args.outside.now; waiting = g.O.Outside.waiting c.args.outside.now; kept_back = g.O.Outside.kept_back c.args.outside.now; returned = g.O.Outside.returned c.args.outside.now; sessions = g.O.Archive.sessions c.args.outside.now; faults = g.O.Outside.faults c.args.outside.now; keepers_out = g.O.Outside.keepers_out c.args.outside.now; lanes_out = g.O.Outside.lanes_out c.args.outside.now } in
-    let opened : Shelves = record { stores = g.O.Outside.stores c.open.new.outside; waiting = g.O.Outside.waiting c.open.new.outside; kept_back = g.O.Outside.kept_back c.open.new.outside; returned = g.O.Outside.returned c.open.new.outside; sessions = g.O.Archive.sessions c.open.new.outside; faults = g.O.Outside.faults c.open.new.outside; keepers_out = g.O.Outside.keepers_out c.open.new.outside; lanes_out = g.O.Outside.lanes_out c.open.new.outside } in
+    let opened : Shelves = record { stores = g.O.Outside.stores c.open_book.new.outside; waiting = g.O.Outside.waiting c.open_book.new.outside; kept_back = g.O.Outside.kept_back c.open_book.new.outside; returned = g.O.Outside.returned c.open_book.new.outside; sessions = g.O.Archive.sessions c.open_book.new.outside; faults = g.O.Outside.faults c.open_book.new.outside; keepers_out = g.O.Outside.keepers_out c.open_book.new.outside; lanes_out = g.O.Outside.lanes_out c.open_book.new.outside } in
     let lent : Shelves = record { stores = g.O.Outside.stores c.lanes.new.self; waiting = g.O.Outside.waiting c.lanes.new.self; kept_back = g.O.Outside.kept_back c.lanes.new.self; returned = g.O.Outside.returned c.lanes.new.self; sessions = g.O.Archive.sessions c.lanes.new.self; faults = g.O.Outside.faults c.lanes.new.self; keepers_out = g.O.Outside.keepers_out c.lanes.new.self; lanes_out = g.O.Outside.lanes_out c.lanes.new.self } in
     let held : Shelves = record { stores = g.O.Outside.stores c.hold.new.outside; waiting = g.O.Outside.waiting c.hold.new.outside; kept_back = g.O.Outside.kept_back c.hold.new.outside; returned = g.O.Outside.returned c.hold.new.outside; sessions = g.O.Archive.sessions c.hold.new.outside; faults = g.O.Outside.faults c.hold.new.outside; keepers_out = g.O.Outside.keepers_out c.hold.new.outside; lanes_out = g.O.Outside.lanes_out c.hold.new.outside } in
     let h = c.in_ok-line.ensures.held in
@@ -39,7 +39,7 @@ returns-clause-port g c =
     let told : Lane g.row.O-Door.Denot g.row.O-Back.Denot g.row.O-Time.Denot g.row.O-Draw.Denot g.row.O-Hold.Denot → LaneTold = λ l. told_of (g.O.Door.Port.coming l.port) (g.O.Door.Port.served l.port) (g.O.Back.Backend.sent l.means.backend) (g.O.Back.Backend.given l.means.backend) (g.O.Time.Clock.fixed l.means.clock) (g.O.Draw.Words.fixed l.means.words) (g.O.Door.Port.closed l.port) (g.O.Door.Port.out l.port) (g.O.Door.Port.faults l.port) in
     let lanes = c.in-Ok-lanes.lanes.items in
     let first : Shelves = record { stores = g.O.Outside.stores c.args.outside.now; waiting = g.O.Outside.waiting c.args.outside.now; kept_back = g.O.Outside.kept_back c.args.outside.now; returned = g.O.Outside.returned c.args.outside.now; sessions = g.O.Archive.sessions c.args.outside.now; faults = g.O.Outside.faults c.args.outside.now; keepers_out = g.O.Outside.keepers_out c.args.outside.now; lanes_out = g.O.Outside.lanes_out c.args.outside.now } in
-    let opened : Shelves = record { stores = g.O.Outside.stores c.open.new.outside; waiting = g.O.Outside.waiting c.open.new.outside; kept_back = g.O.Outside.kept_back c.open.new.outside; returned = g.O.Outside.returned c.open.new.outside; sessions = g.O.Archive.sessions c.open.new.outside; faults = g.O.Outside.faults c.open.new.outside; keepers_out = g.O.Outside.keepers_out c.open.new.outside; lanes_out = g.O.Outside.lanes_out c.open.new.outside } in
+    let opened : Shelves = record { stores = g.O.Outside.stores c.open_book.new.outside; waiting = g.O.Outside.waiting c.open_book.new.outside; kept_back = g.O.Outside.kept_back c.open_book.new.outside; returned = g.O.Outside.returned c.open_book.new.outside; sessions = g.O.Archive.sessions c.open_book.new.outside; faults = g.O.Outside.faults c.open_book.new.outside; keepers_out = g.O.Outside.keepers_out c.open_book.new.outside; lanes_out = g.O.Outside.lanes_out c.open_book.new.outside } in
     let lent : Shelves = record { stores = g.O.Outside.stores c.lanes.new.self; waiting = g.O.Outside.waiting c.lanes.new.self; kept_back = g.O.Outside.kept_back c.lanes.new.self; returned = g.O.Outside.returned c.lanes.new.self; sessions = g.O.Archive.sessions c.lanes.new.self; faults = g.O.Outside.faults c.lanes.new.self; keepers_out = g.O.Outside.keepers_out c.lanes.new.self; lanes_out = g.O.Outside.lanes_out c.lanes.new.self } in
     let held : Shelves = record { stores = g.O.Outside.stores c.hold.new.outside; waiting = g.O.Outside.waiting c.hold.new.outside; kept_back = g.O.Outside.kept_back c.hold.new.outside; returned = g.O.Outside.returned c.hold.new.outside; sessions = g.O.Archive.sessions c.hold.new.outside; faults = g.O.Outside.faults c.hold.new.outside; keepers_out = g.O.Outside.keepers_out c.hold.new.outside; lanes_out = g.O.Outside.lanes_out c.hold.new.outside } in
     let h = c.in_ok-line.ensures.held in
@@ -55,7 +55,7 @@ returns-clause-output g c =
     let told : Lane g.row.O-Door.Denot g.row.O-Back.Denot g.row.O-Time.Denot g.row.O-Draw.Denot g.row.O-Hold.Denot → LaneTold = λ l. told_of (g.O.Door.Port.coming l.port) (g.O.Door.Port.served l.port) (g.O.Back.Backend.sent l.means.backend) (g.O.Back.Backend.given l.means.backend) (g.O.Time.Clock.fixed l.means.clock) (g.O.Draw.Words.fixed l.means.words) (g.O.Door.Port.closed l.port) (g.O.Door.Port.out l.port) (g.O.Door.Port.faults l.port) in
     let lanes = c.in-Ok-lanes.lanes.items in
     let first : Shelves = record { stores = g.O.Outside.stores c.args.outside.now; waiting = g.O.Outside.waiting c.args.outside.now; kept_back = g.O.Outside.kept_back c.args.outside.now; returned = g.O.Outside.returned c.args.outside.now; sessions = g.O.Archive.sessions c.args.outside.now; faults = g.O.Outside.faults c.args.outside.now; keepers_out = g.O.Outside.keepers_out c.args.outside.now; lanes_out = g.O.Outside.lanes_out c.args.outside.now } in
-    let opened : Shelves = record { stores = g.O.Outside.stores c.open.new.outside; waiting = g.O.Outside.waiting c.open.new.outside; kept_back = g.O.Outside.kept_back c.open.new.outside; returned = g.O.Outside.returned c.open.new.outside; sessions = g.O.Archive.sessions c.open.new.outside; faults = g.O.Outside.faults c.open.new.outside; keepers_out = g.O.Outside.keepers_out c.open.new.outside; lanes_out = g.O.Outside.lanes_out c.open.new.outside } in
+    let opened : Shelves = record { stores = g.O.Outside.stores c.open_book.new.outside; waiting = g.O.Outside.waiting c.open_book.new.outside; kept_back = g.O.Outside.kept_back c.open_book.new.outside; returned = g.O.Outside.returned c.open_book.new.outside; sessions = g.O.Archive.sessions c.open_book.new.outside; faults = g.O.Outside.faults c.open_book.new.outside; keepers_out = g.O.Outside.keepers_out c.open_book.new.outside; lanes_out = g.O.Outside.lanes_out c.open_book.new.outside } in
     let lent : Shelves = record { stores = g.O.Outside.stores c.lanes.new.self; waiting = g.O.Outside.waiting c.lanes.new.self; kept_back = g.O.Outside.kept_back c.lanes.new.self; returned = g.O.Outside.returned c.lanes.new.self; sessions = g.O.Archive.sessions c.lanes.new.self; faults = g.O.Outside.faults c.lanes.new.self; keepers_out = g.O.Outside.keepers_out c.lanes.new.self; lanes_out = g.O.Outside.lanes_out c.lanes.new.self } in
     let held : Shelves = record { stores = g.O.Outside.stores c.hold.new.outside; waiting = g.O.Outside.waiting c.hold.new.outside; kept_back = g.O.Outside.kept_back c.hold.new.outside; returned = g.O.Outside.returned c.hold.new.outside; sessions = g.O.Archive.sessions c.hold.new.outside; faults = g.O.Outside.faults c.hold.new.outside; keepers_out = g.O.Outside.keepers_out c.hold.new.outside; lanes_out = g.O.Outside.lanes_out c.hold.new.outside } in
     let h = c.in_ok-line.ensures.held in

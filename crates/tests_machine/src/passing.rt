@@ -1,9 +1,11 @@
-// A keeper in memory of which no call fails.
+// Stores in memory, of which no call fails.
 ghost use Rattle.std.specs.Prelude.{◌≡◌, [], true};
 ghost use Rattle.keeper_core.specs.Keeping.{told_by};
 ghost use Rattle.keeper_core.specs.Lists.{no_rows};
 
-use keeper_core::{JoinRow, KeepFault, Keeper, LoadFault, MemKeeper, Row, Tables};
+use gateway_machine::Stores;
+use keeper_core::{JoinRow, KeepFault, Keeper, LoadFault, MemKeeper, Row, Table, Tables};
+use outside_core::KeeperStart;
 use std::alloc::Global;
 use std::marker::Model;
 
@@ -16,7 +18,7 @@ pub struct PassingKeeper {
 
 impl Model for PassingKeeper {
     ghost use Rattle.keeper_core.specs.Keeping.{MemFacts};
-    ghost use Rattle.gateway_machine.specs.Stands.{NeverFails};
+    ghost use Rattle.tests_machine.specs.Passing.{NeverFails};
 
     ghost Value = { MemFacts };
 
@@ -36,7 +38,7 @@ impl PassingKeeper {
     }
 
     // So it adds nothing to the faults of who lent it.
-    pub(crate) fn never_failed(&self)
+    fn never_failed(&self)
         ensures { self.now.loads ≡ 0 }
     {
         let _ = &self.keeper;
@@ -64,5 +66,26 @@ impl Keeper for PassingKeeper {
 
     fn rewrite(&mut self, alloc: Global, row: &JoinRow) -> Result<(), KeepFault> {
         self.keeper.rewrite(alloc, row)
+    }
+}
+
+/// Stores in memory: those whose name begins with `x` can't be opened, and those whose name begins with `y` have a bad row.
+#[derive(Drop)]
+pub struct PassingStores;
+
+impl Stores for PassingStores {
+    type Keep = PassingKeeper;
+
+    fn open(&mut self, alloc: Global, name: &str) -> Result<PassingKeeper, KeeperStart> {
+        match name.as_bytes() {
+            [b'x', ..] => Err(KeeperStart::StoreFault),
+            [b'y', ..] => Err(KeeperStart::BadStore(Table::Stages, 7)),
+            _ => Ok(PassingKeeper::new(alloc)),
+        }
+    }
+
+    fn has_failed(keep: &PassingKeeper) -> bool {
+        keep.never_failed();
+        false
     }
 }

@@ -1,0 +1,95 @@
+// What a line of commands asks for.
+ghost use Rattle.std.specs.Prelude.{◌≡◌, IfOk};
+ghost use Rattle.vtl_grammar.specs.Templates.{read_of};
+ghost use Rattle.admin_command.specs.Lines.{put_by, asked_by as asked_by_record, asked_in as asked_in_line};
+
+use crate::orders::Order;
+use api_model::{Api, ApiCause, ApiFault};
+use book_rules::Command;
+use call_facts::Vars;
+use gw_base::{Memory, Seq, Shared, Text};
+use play_script::{LineFault, Record, record_in};
+use std::alloc::Global;
+
+/// A command at its moment, or why the line has none.
+type Asked = Result<Order, LineFault>;
+
+// A text API is put where its template is read.
+fn put_text(alloc: Global, moment: u64, api: Text, template: &str) -> Result<Asked, Memory>
+    ensures { IfOk result (λ asked. asked ≡ put_by moment api template.now (read_of template.now)) }
+{
+    match Api::text(alloc, template) {
+        Ok(definition) => {
+            let definition = Shared::new(alloc, definition)?;
+            let command = Command::PutApi { api, definition };
+            Ok(Ok(Order { moment, command }))
+        }
+        Err(
+            ApiFault {
+                cause: ApiCause::Template(fault),
+                ..
+            },
+        ) => Ok(Err(LineFault::Template(fault))),
+        Err(_) => Err(Memory),
+    }
+}
+
+// Points a stage to a deployment, with its variables.
+fn put_stage(
+    alloc: Global,
+    moment: u64,
+    api: Text,
+    stage: Text,
+    deployment: u32,
+    variables: Seq<(Text, Text)>,
+) -> Result<Asked, Memory>
+    ensures { IfOk result (λ asked. asked ≡ asked_by_record (Record.PutStage moment api stage deployment variables)) }
+{
+    let variables = Shared::new(alloc, Vars { pairs: variables })?;
+    let command = Command::PutStage {
+        api,
+        stage,
+        deployment,
+        variables,
+    };
+    Ok(Ok(Order { moment, command }))
+}
+
+// What a record asks for.
+fn asked_by(alloc: Global, found: Record) -> Result<Asked, Memory>
+    ensures { IfOk result (λ asked. asked ≡ asked_by_record found) }
+{
+    match found {
+        Record::PutText {
+            moment,
+            api,
+            template,
+        } => put_text(alloc, moment, api, template.as_str()),
+        Record::Deploy { moment, api } => Ok(Ok(Order {
+            moment,
+            command: Command::Deploy { api },
+        })),
+        Record::PutStage {
+            moment,
+            api,
+            stage,
+            deployment,
+            variables,
+        } => put_stage(alloc, moment, api, stage, deployment, variables),
+        Record::Shutdown { moment } => Ok(Ok(Order {
+            moment,
+            command: Command::Shutdown,
+        })),
+        Record::Post { .. } | Record::Call { .. } => Ok(Err(LineFault::BadRecord)),
+    }
+}
+
+/// What a line asks for.
+pub fn asked_in(alloc: Global, line: &[u8]) -> Result<Asked, Memory>
+    ensures { IfOk result (λ asked. asked ≡ asked_in_line line.now) }
+{
+    match record_in(alloc, line)? {
+        Ok(found) => asked_by(alloc, found),
+        Err(fault) => Ok(Err(fault)),
+    }
+}

@@ -1,0 +1,2 @@
+-- why no keeper is lent
+pub mod Starts

@@ -1,0 +1,2 @@
+-- a keeper of which no call fails
+pub mod Passing

@@ -1,5 +1,5 @@
 -- how lines are carried out, one by one
-pub mod Carrying
+pub mod Going
 -- the places of the changes that were lost
 pub mod Lost
 -- lines come to one thing

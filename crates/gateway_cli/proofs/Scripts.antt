@@ -13,11 +13,11 @@ use Rattle.gateway_cli.specs.Top.{Says, play_stopped_by}
 use Rattle.gateway_cli.specs.declared.stopped.Stopped.{Stopped}
 use Rattle.gateway_cli.specs.declared.stopped.Stopped.TheVariants as stopped
 
-over : (script : List ℕ) → 67108864 < length script → nat_lt script_limit (length script) ≡ true
+pub over : (script : List ℕ) → 67108864 < length script → nat_lt script_limit (length script) ≡ true
 unfolding script_limit
 over script h = lt-ltb 67108864 (length script) h
 
-within : (script : List ℕ) → length script ≤ 67108864 → nat_lt script_limit (length script) ≡ false
+pub within : (script : List ℕ) → length script ≤ 67108864 → nat_lt script_limit (length script) ≡ false
 unfolding script_limit
 within script h = grind (arith, common_steps)
 

@@ -68,9 +68,20 @@ serve_asked (word ∷ store ∷ port ∷ lanes ∷ []) =
     if bytes_eq word (codes "serve") && is_argument store then asked_of store (number_to 65535 port) (number_to 8 lanes) else None
 serve_asked (word ∷ store ∷ port ∷ lanes ∷ other ∷ words) = None
 
+-- the name of the store behind `admin`
+abbrev pub admin_store : List (List ℕ) → Option (List ℕ)
+admin_store [] = None
+admin_store (word ∷ []) = None
+admin_store (word ∷ store ∷ []) = if bytes_eq word (codes "admin") && is_argument store then Some store else None
+admin_store (word ∷ store ∷ other ∷ words) = None
+
 -- the words are those of a command
 abbrev pub is_command : List (List ℕ) → Bool
-is_command words = is_plain words || is_some (serve_asked words)
+is_command words = is_plain words || (is_some (serve_asked words) || is_some (admin_store words))
+
+-- the words are those of a command that reads the input
+abbrev pub reads_input : List (List ℕ) → Bool
+reads_input words = is_play words || is_some (admin_store words)
 
 -- what is printed of words of no command
 abbrev pub usage : Output

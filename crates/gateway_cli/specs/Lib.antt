@@ -10,3 +10,5 @@ pub mod Render
 pub mod Requests
 -- what the top call leaves
 pub mod Top
+-- what the command `admin` comes to
+pub mod Admin

@@ -3,7 +3,8 @@
 //! [`run`] takes the words behind the program's name, an input, an output and an outside, and answers the program's status.
 //! `play` reads a script from the input and plays it over an empty book, as `play_script` says it; `render TEMPLATE BODY`
 //! prints what the template of the one file gives over the body of the other; `check FILE` tells whether the file is a
-//! definition of an API; `serve STORE PORT LANES` serves a session over so many lanes at a port of the loopback and over the
+//! definition of an API; `admin STORE` carries out the commands that stand on the input over the tables of a store, as
+//! `admin_command` says it; `serve STORE PORT LANES` serves a session over so many lanes at a port of the loopback and over the
 //! tables of a store, as `serve_command` says it, and prints its line.
 //!
 //! ```text
@@ -24,6 +25,12 @@
 //! | `{"version":1,"resources":{}}` | `ok resources=0 methods=0 models=0` |
 //! | `{"version":1,"a b":1}` | `refused Unknown(a%20b) at /a%20b`, with status 1 |
 //!
+//! | `admin` of a store, with these lines on the input | prints |
+//! |---|---|
+//! | `text 0 hello Hi!`, `deploy 0 hello` | `done`, `deployed 1` |
+//! | `post 0 0 hello v1 Ann` | `refused line 1 BadRecord at ~`, with status 1 |
+//! | of a store that can't be opened | `fault keeper`, with status 3 |
+//!
 //! | `serve` of | prints |
 //! |---|---|
 //! | `orders 8080 2`, where each lane had one call | `session entries=4 calls=2 admitted=0 throttled=0 quota=0 notkept=0` |
@@ -33,7 +40,7 @@
 //! | a store that can't be read, a port that can't be had | `fault keeper`, `fault port`, with status 3 |
 //! | `orders 0 2`, `orders 65536 2`, `orders 8080 9`, `-orders 8080 2` | `usage`, with status 2 |
 //!
-//! What is promised: of every command but `serve`, what `run` writes and answers is the outcome of its words, of its input and
+//! What is promised: of every command but `admin` and `serve`, what `run` writes and answers is the outcome of its words, of its input and
 //! of the files, a definition that speaks of every script (`Plays` of `play_script`), of every two files (`specs/Render.antt`)
 //! and of every document (`specs/Check.antt`) to the byte, or a front of it where memory is wanting or the input, the output or
 //! a file fails; the program tells such a fault only where a count of faults rose in the call, or where the script tells its
@@ -42,9 +49,13 @@
 //! the output rose, behind what that session wrote (`ServeFaulted` of `specs/Top.antt`). All that the outside lent is given
 //! back at every status.
 //!
+//! Of `admin`, what it writes and answers is what the lines come to over the store's tables, or a bad row of them
+//! (`specs/Admin.antt`), and where it is cut short some of the lines, from the first on, were carried out.
+//!
 //! Left out: what is written where memory is wanting in `serve`.
 #![tactic(auto)]
 
+mod administering;
 mod check;
 mod files;
 pub mod laws;

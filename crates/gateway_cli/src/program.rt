@@ -5,21 +5,23 @@ ghost use Rattle.std.specs.Io.KnownBytes.{IsAtEnd};
 ghost use Rattle.gw_base.specs.Outside.{Rose};
 ghost use Rattle.gw_base.specs.Whole.{AppendsFront};
 ghost use Rattle.gateway_cli.specs.Check.{check_of};
-ghost use Rattle.gateway_cli.specs.Commands.{Outcome, OutcomeFront, TellsLoadToFail, usage, is_command, is_plain, is_over_files, is_play as is_play_of, over_files as over_files_of, serve_asked as serve_asked_of};
+ghost use Rattle.gateway_cli.specs.Commands.{Outcome, OutcomeFront, TellsLoadToFail, usage, is_command, is_plain, is_over_files, is_play as is_play_of, over_files as over_files_of, serve_asked as serve_asked_of, admin_store as admin_store_of, reads_input};
+ghost use Rattle.gateway_cli.specs.Admin.{Administered, AdminWantsMemory, AdminFaulted};
 ghost use Rattle.play_script.specs.Play.{Played, PlayedFront, FailsToLoad, SaysFront, is_command_status, session_limits};
 ghost use Rattle.gateway_cli.specs.Render.{render_of};
 ghost use Rattle.gateway_cli.specs.Top.{OfTold, Answered, Says, Faulted, ServeFaulted, play_stopped_by};
 ghost use Rattle.serve_command.specs.Serving.{Ends};
 ghost use Rattle.serve_command.specs.Shelves.{Shelves, AllIsBack};
 
+use crate::administering::admin;
 use crate::check::check_within;
 use crate::files::{document_in, files_in};
-use crate::limits::SESSION_LIMITS;
+use crate::limits::{SCRIPT_LIMIT, SESSION_LIMITS};
 use crate::render::judge;
 use crate::say::{say, say_fault};
 use crate::serving::serve;
 use crate::stopped::Stopped;
-use crate::words::{check_name, is_play, render_names, serve_asked};
+use crate::words::{admin_store, check_name, is_play, render_names, serve_asked};
 use book_rules::Entry;
 use gate_ports::Port;
 use gw_base::{ReadAll, Sink, Source, Text, read_all};
@@ -28,9 +30,6 @@ use play_script::{PlayStop, play_within};
 use std::alloc::Global;
 use std::sync::Wait;
 use std::thread::Threads;
-
-/// The most bytes of a script.
-const SCRIPT_LIMIT: usize = 67_108_864;
 
 // Why the program stops where a play does.
 fn stop_of(stop: PlayStop) -> Stopped
@@ -163,7 +162,7 @@ fn say_usage<W: Sink>(output: &mut W) -> Result<u8, Stopped>
     say(output, b"usage\n", 2)
 }
 
-// Does what words other than `play` and `serve` say.
+// Does what words other than `play`, `serve` and `admin` say.
 fn over_files<W: Sink, O: Outside<Entry>>(
     alloc: Global,
     words: &[Text],
@@ -189,7 +188,7 @@ fn over_files<W: Sink, O: Outside<Entry>>(
     }
 }
 
-// Does what words other than `serve` say.
+// Does what words other than `serve` and `admin` say.
 fn respond<I: Source, W: Sink, O: Outside<Entry>, R: Wait>(
     rt: &R,
     alloc: Global,
@@ -222,7 +221,7 @@ fn respond<I: Source, W: Sink, O: Outside<Entry>, R: Wait>(
     over_files(alloc, words, output, outside)
 }
 
-// Does what words other than `serve` say, says why it stops where it does, and answers the status.
+// Does what words other than `serve` and `admin` say, says why it stops where it does, and answers the status.
 fn answer<I: Source, W: Sink, O: Outside<Entry>, R: Wait>(
     rt: &R,
     alloc: Global,
@@ -284,18 +283,18 @@ pub fn run<I: Source, W: Sink, O: Outside<Entry>, R: Threads + Wait + Sync>(
 ) -> u8
 where
     <O::Door as Port>::Link: Send,
-    // Of words other than `serve`, what is written and answered is the outcome of the words, of the input and of the files.
-    ensures exact { serve_asked_of words.now ≡ None → result ≢ 3 → result ≢ 5 → OfTold (I.left input.old) (λ script. OfTold (O.files outside.old) (λ files.
+    // Of words other than `serve` and `admin`, what is written and answered is the outcome of the words, of the input and of the files.
+    ensures exact { serve_asked_of words.now ≡ None → admin_store_of words.now ≡ None → result ≢ 3 → result ≢ 5 → OfTold (I.left input.old) (λ script. OfTold (O.files outside.old) (λ files.
         Says (W.written output.old) (W.written output.new) (Outcome words.now script files) result)) }
 
     // Where memory is wanting, a front of it is written.
-    ensures memory { serve_asked_of words.now ≡ None → result ≡ 5 → OfTold (I.left input.old) (λ script. OfTold (O.files outside.old) (λ files.
+    ensures memory { serve_asked_of words.now ≡ None → admin_store_of words.now ≡ None → result ≡ 5 → OfTold (I.left input.old) (λ script. OfTold (O.files outside.old) (λ files.
         SaysFront (W.written output.old) (W.written output.new) (OutcomeFront words.now script files))) }
 
     // A fault comes only where a count rose in this call, of the input, the files or the output, or where the script told the
     // keeper's load to fail: the first in the order in which they come is the cause, and the load comes before the output. A front is written, and then a front of
     // the one line that names it, also where that line's own write fails.
-    ensures fault { serve_asked_of words.now ≡ None → result ≡ 3 → OfTold (I.left input.old) (λ script. OfTold (O.files outside.old) (λ files.
+    ensures fault { serve_asked_of words.now ≡ None → admin_store_of words.now ≡ None → result ≡ 3 → OfTold (I.left input.old) (λ script. OfTold (O.files outside.old) (λ files.
         Faulted (W.written output.old) (W.written output.new) (OutcomeFront words.now script files)
         (record { before = I.faults input.old; now = I.faults input.new })
         (record { before = O.faults outside.old; now = O.faults outside.new })
@@ -308,6 +307,15 @@ where
     // A fault comes only where a count rose in this call, of the outside or of the output, and the line behind what was written names it.
     ensures serve_fault { IfSome (serve_asked_of words.now) (λ asked. result ≡ 3 → ServeFaulted session_limits asked.0 asked.2 (record { stores = O.stores outside.old; waiting = O.waiting outside.old; kept_back = O.kept_back outside.old; returned = O.returned outside.old; sessions = O.Archive.sessions outside.old; faults = O.faults outside.old; keepers_out = O.keepers_out outside.old; lanes_out = O.lanes_out outside.old }) (record { stores = O.stores outside.new; waiting = O.waiting outside.new; kept_back = O.kept_back outside.new; returned = O.returned outside.new; sessions = O.Archive.sessions outside.new; faults = O.faults outside.new; keepers_out = O.keepers_out outside.new; lanes_out = O.lanes_out outside.new }) (record { before = W.faults output.old; now = W.faults output.new }) (W.written output.old) (W.written output.new)) }
 
+    // Of `admin`, the status and what is written are what the lines of the input come to over the store's tables, or a bad row of them.
+    ensures administers { IfSome (admin_store_of words.now) (λ store. result ≢ 3 → result ≢ 5 → OfTold (I.left input.old) (λ lines. Administered store lines (record { stores = O.stores outside.old; waiting = O.waiting outside.old; kept_back = O.kept_back outside.old; returned = O.returned outside.old; sessions = O.Archive.sessions outside.old; faults = O.faults outside.old; keepers_out = O.keepers_out outside.old; lanes_out = O.lanes_out outside.old }) (record { stores = O.stores outside.new; waiting = O.waiting outside.new; kept_back = O.kept_back outside.new; returned = O.returned outside.new; sessions = O.Archive.sessions outside.new; faults = O.faults outside.new; keepers_out = O.keepers_out outside.new; lanes_out = O.lanes_out outside.new }) (W.written output.old) (W.written output.new) result)) }
+
+    // Where memory is wanting, some of the lines, from the first on, were carried out, and a front of what they print was written.
+    ensures admin_memory { IfSome (admin_store_of words.now) (λ store. result ≡ 5 → OfTold (I.left input.old) (λ lines. AdminWantsMemory store lines (record { stores = O.stores outside.old; waiting = O.waiting outside.old; kept_back = O.kept_back outside.old; returned = O.returned outside.old; sessions = O.Archive.sessions outside.old; faults = O.faults outside.old; keepers_out = O.keepers_out outside.old; lanes_out = O.lanes_out outside.old }) (record { stores = O.stores outside.new; waiting = O.waiting outside.new; kept_back = O.kept_back outside.new; returned = O.returned outside.new; sessions = O.Archive.sessions outside.new; faults = O.faults outside.new; keepers_out = O.keepers_out outside.new; lanes_out = O.lanes_out outside.new }) (W.written output.old) (W.written output.new))) }
+
+    // A fault comes only where a count rose in this call, of the input, of the outside or of the output.
+    ensures admin_fault { IfSome (admin_store_of words.now) (λ store. result ≡ 3 → AdminFaulted store (I.left input.old) (record { stores = O.stores outside.old; waiting = O.waiting outside.old; kept_back = O.kept_back outside.old; returned = O.returned outside.old; sessions = O.Archive.sessions outside.old; faults = O.faults outside.old; keepers_out = O.keepers_out outside.old; lanes_out = O.lanes_out outside.old }) (record { stores = O.stores outside.new; waiting = O.waiting outside.new; kept_back = O.kept_back outside.new; returned = O.returned outside.new; sessions = O.Archive.sessions outside.new; faults = O.faults outside.new; keepers_out = O.keepers_out outside.new; lanes_out = O.lanes_out outside.new }) (record { before = I.faults input.old; now = I.faults input.new }) (record { before = W.faults output.old; now = W.faults output.new }) (W.written output.old) (W.written output.new)) }
+
     // All that the outside lent is given back.
     ensures given_back { AllIsBack (record { stores = O.stores outside.old; waiting = O.waiting outside.old; kept_back = O.kept_back outside.old; returned = O.returned outside.old; sessions = O.Archive.sessions outside.old; faults = O.faults outside.old; keepers_out = O.keepers_out outside.old; lanes_out = O.lanes_out outside.old }) (record { stores = O.stores outside.new; waiting = O.waiting outside.new; kept_back = O.kept_back outside.new; returned = O.returned outside.new; sessions = O.Archive.sessions outside.new; faults = O.faults outside.new; keepers_out = O.keepers_out outside.new; lanes_out = O.lanes_out outside.new }) }
 
@@ -315,15 +323,18 @@ where
     ensures usage { result ≡ 2 → is_command words.now ≡ false }
     ensures other { is_command words.now ≡ false → (result ≢ 0) × (result ≢ 1) × (result ≢ 4) }
 
-    // At status 0 of `play` the end of the input was reached; no other command reads of it.
-    ensures read { result ≡ 0 → is_play_of words.now ≡ true → IsAtEnd (I.left input.new) }
-    ensures unread { is_play_of words.now ≡ false → I.left input.new ≡ I.left input.old }
+    // At status 0 of `play` and of `admin` the end of the input was reached; no other command reads of it.
+    ensures read { result ≡ 0 → reads_input words.now ≡ true → IsAtEnd (I.left input.new) }
+    ensures unread { reads_input words.now ≡ false → I.left input.new ≡ I.left input.old }
 
     // No other status is answered.
     ensures known { result ≤ 5 }
 {
-    match serve_asked(words) {
-        Some(asked) => serve(rt, alloc, &asked, output, outside),
+    if let Some(asked) = serve_asked(words) {
+        return serve(rt, alloc, &asked, output, outside);
+    }
+    match admin_store(words) {
+        Some(store) => admin(alloc, store, input, output, outside),
         None => answer(rt, alloc, words, input, output, outside),
     }
 }

@@ -1,7 +1,7 @@
 // What the words ask for.
 ghost use Rattle.std.specs.Prelude.{◌≡◌, ◌≤◌, IfSome};
 ghost use Rattle.std.specs.Option.{option_map};
-ghost use Rattle.gateway_cli.specs.Commands.{is_play as is_play_of, is_argument as is_argument_of, render_names as render_names_of, check_name as check_name_of, number_to as number_to_of, serve_asked as serve_asked_of};
+ghost use Rattle.gateway_cli.specs.Commands.{is_play as is_play_of, is_argument as is_argument_of, render_names as render_names_of, check_name as check_name_of, number_to as number_to_of, serve_asked as serve_asked_of, admin_store as admin_store_of};
 
 use gw_base::Text;
 use record_fields::number;
@@ -51,6 +51,21 @@ pub fn check_name(words: &[Text]) -> Option<&str>
     };
     let name = name.as_str();
     if word.as_str() == "check" && is_argument(name) {
+        Some(name)
+    } else {
+        None
+    }
+}
+
+/// The name of the store behind `admin`.
+pub fn admin_store(words: &[Text]) -> Option<&str>
+    ensures { option_map (λ name. name.now) result ≡ admin_store_of words.now }
+{
+    let [word, name] = words else {
+        return None;
+    };
+    let name = name.as_str();
+    if word.as_str() == "admin" && is_argument(name) {
         Some(name)
     } else {
         None

@@ -1,6 +1,6 @@
 use Rattle.std.proofs.Common.{◌≡◌, ◌<◌, ◌+◌, ◌^◌, length}
 use Rattle.play_script.specs.Coding.{lines_of}
-use Rattle.admin_command.proofs.Carrying.{Carrying}
+use Rattle.admin_command.proofs.Going.{Carrying}
 use Rattle.admin_command.proofs.carrying.carry_out_lines.Given as goal
 
 abbrev pub invariant-lines : goal.invariant-lines

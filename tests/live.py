@@ -4,11 +4,11 @@
 Usage: tests/live.py [PROGRAM]; the program is built by `rt run` in crates/gateway.
 
 Prints `ok NAME` or `FAILED NAME: why` for each test, and last `N passed, N failed`. Its status is 0 only where none failed. Each wait
-has a limit of its own, so it ends whatever the program does. The store is empty, so every call is answered 403 until an API is put over
-HTTP, by a program of its own that is shut down over HTTP, too; what is expected is said to the byte by docs/HTTP.md, docs/ADMIN.md and
-docs/SCRIPT.md. Nothing is sent that the server would leave unread where it closes a connection: the system would then reset it, and the
+has a limit of its own, so it ends whatever the program does. The store begins empty, so every call is answered 403 until an API is put
+over HTTP, by a program of its own that is shut down over HTTP, too; what is expected is said to the byte by docs/HTTP.md, docs/ADMIN.md,
+docs/STORE.md and docs/SCRIPT.md. Nothing is sent that the server would leave unread where it closes a connection: the system would then reset it, and the
 answer might be lost."""
-import os, queue, signal, socket, subprocess, sys, tempfile, threading, time
+import os, queue, signal, socket, sqlite3, subprocess, sys, tempfile, threading, time
 
 TOP = os.path.dirname(os.path.dirname(os.path.abspath(__file__)))
 LANES = 4
@@ -116,14 +116,14 @@ class Client:
 
 
 class Server:
-    """The program, listening, in a folder of its own."""
+    """The program, listening, in a folder of its own, over a store there."""
 
-    def __init__(self, program, room):
-        self.program, self.room, self.process, self.port = program, room, None, None
+    def __init__(self, program, room, store="orders.store"):
+        self.program, self.room, self.store, self.process, self.port = program, room, store, None, None
 
-    def run(self, *words):
-        """The program with these words, which ends by itself: its status, and what it prints."""
-        ended = subprocess.run([self.program, *words], cwd=self.room, stdin=subprocess.DEVNULL, capture_output=True, timeout=WAIT)
+    def run(self, *words, lines=b""):
+        """The program with these words and this input, which ends by itself: its status, and what it prints."""
+        ended = subprocess.run([self.program, *words], cwd=self.room, input=lines, capture_output=True, timeout=WAIT)
         return ended.returncode, ended.stdout
 
     def start(self):
@@ -132,7 +132,7 @@ class Server:
             with socket.socket() as probe:
                 probe.bind(("127.0.0.1", 0))
                 self.port = probe.getsockname()[1]
-            words = [self.program, "serve", "memory", str(self.port), str(LANES)]
+            words = [self.program, "serve", self.store, str(self.port), str(LANES)]
             with open(f"{self.room}/output", "wb") as output:
                 self.process = subprocess.Popen(words, cwd=self.room, stdin=subprocess.DEVNULL, stdout=output, stderr=subprocess.PIPE)
             line = self.first_line()
@@ -313,7 +313,7 @@ def clients_that_say_nothing_keep_their_own_lane_alone(server):
 
 
 def a_second_program_at_the_port_ends_with_3(server):
-    expect("status and output", server.run("serve", "memory", str(server.port), str(LANES)), (3, b"fault port\n"))
+    expect("status and output", server.run("serve", "other.store", str(server.port), str(LANES)), (3, b"fault port\n"))
     with Client(server.port) as client:
         client.send(LAST)
         client.has_last("the first program's answer", no_stage(closes=True))
@@ -385,6 +385,114 @@ def made_called_and_shut_down(other):
     expect("status and output", other.ends_by_itself(), (0, line))
 
 
+def free_port():
+    with socket.socket() as probe:
+        probe.bind(("127.0.0.1", 0))
+        return str(probe.getsockname()[1])
+
+
+def rows_of(path, table):
+    """The rows of a table of a store that no program has open, in the order of their keys."""
+    with sqlite3.connect(path) as store:
+        return store.execute(f"SELECT * FROM {table} ORDER BY 1, 2").fetchall()
+
+
+def change_store(path, statement):
+    store = sqlite3.connect(path)
+    store.execute(statement)
+    store.commit()
+    store.close()
+
+
+def is_answered(server, what, answer):
+    with Client(server.port) as client:
+        client.send(LAST)
+        client.has_last(what, answer)
+
+
+def a_program_that_is_killed_is_found_again_in_its_store(server):
+    """One program is put an API and ended at once by the system; another over the same file answers as it did, and its tables are the file's."""
+    with tempfile.TemporaryDirectory() as room:
+        first = Server(server.program, room)
+        try:
+            first.start()
+            with Client(first.port) as client:
+                for asked, answer in MADE:
+                    client.calls(f"to {asked[:60]}", asked, answer)
+        finally:
+            first.end()
+        second = Server(server.program, room)
+        try:
+            second.start()
+            is_answered(second, "the call of the next program", text_answer(b"Hi Ann!", closes=True))
+            with Client(second.port) as client:
+                client.send(request(b"POST", b"/_admin/shutdown"))
+                client.has_last("the shutdown", json_answer(b"200 OK", b'{"reply":"done"}', closes=True))
+            expect("status", second.ends_by_itself()[0], 0)
+        finally:
+            second.end()
+        path = f"{room}/{second.store}"
+        expect("meta", rows_of(path, "meta"), [(0, 1)])
+        expect("apis", rows_of(path, "apis"), [("hello", 1, "Hi $input.body!")])
+        expect("deployments", rows_of(path, "deployments"), [("hello", 1, 1, "Hi $input.body!")])
+        expect("stages", rows_of(path, "stages"), [("hello", "v1", 1, "env=test", 0, 0, "")])
+
+
+def a_second_program_over_a_store_ends_with_3_and_loses_nothing(server):
+    with tempfile.TemporaryDirectory() as room:
+        first = Server(server.program, room)
+        try:
+            first.start()
+            with Client(first.port) as client:
+                client.calls("the first change", *MADE[0])
+                expect("the second program", first.run("serve", first.store, free_port(), "1"), (3, b"fault keeper\n"))
+                expect("administration", first.run("admin", first.store, lines=b"deploy 0 hello\n"), (3, b"fault keeper\n"))
+                for asked, answer in MADE[1:]:
+                    client.calls(f"to {asked[:60]}", asked, answer)
+            is_answered(first, "the call", text_answer(b"Hi Ann!", closes=True))
+        finally:
+            first.end()
+
+
+with open(f"{TOP}/examples/hello.commands", "rb") as commands:
+    LINES = commands.read()
+
+
+def a_store_that_was_administered_is_served(server):
+    """Each run of `admin` finds what the one before left, and so does the server."""
+    with tempfile.TemporaryDirectory() as room:
+        other = Server(server.program, room)
+        expect("the first lines", other.run("admin", other.store, lines=LINES), (0, b"done\ndeployed 1\ndone\n"))
+        more = b"deploy 0 none\ndeploy 0 hello\npost 0 0 hello v1 Ann\ndeploy 0 hello\n"
+        expect("more lines", other.run("admin", other.store, lines=more), (1, b"refused NoApi\ndeployed 2\nrefused line 3 BadRecord at ~\n"))
+        expect("no lines", other.run("admin", other.store), (0, b""))
+        try:
+            other.start()
+            is_answered(other, "the call", text_answer(b"Hi Ann!", closes=True))
+        finally:
+            other.end()
+
+
+def a_file_that_is_no_store_is_told(server):
+    with tempfile.TemporaryDirectory() as room:
+        other = Server(server.program, room)
+        with open(f"{room}/x", "wb") as file:
+            file.write(b"x" * 4096)
+        for words in (("admin", "x"), ("serve", "x", free_port(), "1"), ("admin", "no/such/folder")):
+            expect(f"{words}", other.run(*words), (3, b"fault keeper\n"))
+        with open(f"{room}/x", "rb") as file:
+            expect("the file", file.read(), b"x" * 4096)
+        for name, statement, told in (
+            ("version", "UPDATE meta SET version = 9", b"refused BadStore(meta,0)\n"),
+            ("plans", "INSERT INTO plans VALUES ('p', 0, 1, 0, 0, 0, 0, '')", b"refused BadStore(plans,0)\n"),
+            ("stages", "UPDATE stages SET deployment = 7", b"refused BadStore(stages,0)\n"),
+        ):
+            expect("lines", other.run("admin", name, lines=LINES), (0, b"done\ndeployed 1\ndone\n"))
+            change_store(f"{room}/{name}", statement)
+            expect(f"admin over {name}", other.run("admin", name, lines=LINES), (1, told))
+            expect(f"serve over {name}", other.run("serve", name, free_port(), "1"), (1, told))
+
+
 def a_stage_shows_its_deployment_and_its_variables(server):
     """The guide's second and third steps, on the common program: they leave the stage that the other tests call unknown."""
     steps = [
@@ -416,17 +524,14 @@ def the_examples_do_what_stands_beside_them(server):
     with open(f"{examples}/hello.script", "rb") as script, open(f"{examples}/hello.said", "rb") as said:
         ended = subprocess.run([server.program, "play"], stdin=script, capture_output=True, timeout=WAIT)
         expect("play", (ended.returncode, ended.stdout), (0, said.read()))
-    with socket.socket() as probe:
-        probe.bind(("127.0.0.1", 0))
-        port = probe.getsockname()[1]
-    ended = subprocess.run([f"{examples}/hello.sh", server.program, str(port)], stdin=subprocess.DEVNULL, capture_output=True, timeout=WAIT)
+    ended = subprocess.run([f"{examples}/hello.sh", server.program, free_port()], stdin=subprocess.DEVNULL, capture_output=True, timeout=WAIT)
     lines = b'{"reply":"done"}\n{"reply":"deployed 1"}\n{"reply":"done"}\nHi Ann!\n{"reply":"done"}\n'
     line = b"session entries=10 calls=1 admitted=0 throttled=0 quota=0 notkept=0\n"
     expect("hello.sh", (ended.returncode, sorted(ended.stdout.splitlines())), (0, sorted((lines + line).splitlines())))
 
 
 def words_that_are_no_command_end_with_2(server):
-    for words in ((), ("bogus",), ("serve",), ("serve", "memory", "1"), ("serve", "memory", "port", "4")):
+    for words in ((), ("bogus",), ("serve",), ("serve", "s", "1"), ("serve", "s", "port", "4"), ("admin",), ("admin", "-s")):
         expect(f"status and output of {words}", server.run(*words), (2, b"usage\n"))
 
 
@@ -449,6 +554,10 @@ TESTS = [
     clients_that_say_nothing_keep_their_own_lane_alone,
     a_second_program_at_the_port_ends_with_3,
     an_api_is_made_called_and_shut_down_over_http,
+    a_program_that_is_killed_is_found_again_in_its_store,
+    a_second_program_over_a_store_ends_with_3_and_loses_nothing,
+    a_store_that_was_administered_is_served,
+    a_file_that_is_no_store_is_told,
     a_stage_shows_its_deployment_and_its_variables,
     the_examples_do_what_stands_beside_them,
     words_that_are_no_command_end_with_2,

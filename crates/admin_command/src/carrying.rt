@@ -1,5 +1,5 @@
 // Lines of commands, one by one.
-ghost use Rattle.std.specs.Prelude.{◌≡◌, ◌⊎◌, ◌<◌, ◌+◌, ◌^◌, ℕ, List, [], IfOk, OnErr, length, IfErr};
+ghost use Rattle.std.specs.Prelude.{◌≡◌, ◌⊎◌, ◌<◌, ◌^◌, ℕ, List, [], IfOk, OnErr, length, true};
 ghost use Rattle.std.specs.Io.KnownBytes.{Appends};
 ghost use Rattle.book_rules.specs.declared.events.Event.TheVariants.{Admin};
 ghost use Rattle.gw_base.specs.Outside.{HasWriteCause};

@@ -95,7 +95,22 @@ fn words(alloc: Global, from: &[&str]) -> Result<Vec<Text>, Fail> {
     Ok(words)
 }
 
-/// What these words answer and print. A read of the input would fail, and so do the writes of these numbers.
+/// What these words answer and print with this input, where the writes of these numbers fail.
+pub(crate) fn told_with<R: Threads + Wait + Sync>(
+    rt: &R,
+    alloc: Global,
+    from: &[&str],
+    input: &mut MemSource,
+    outside: &mut MemOut,
+    writes: &[u32],
+) -> Result<(u8, MemSink), Fail> {
+    let mut output = MemSink::new(alloc, Vec::from_slice(alloc, writes)?);
+    let words = words(alloc, from)?;
+    let status = run(rt, alloc, &words, input, &mut output, outside);
+    Ok((status, output))
+}
+
+/// What these words answer and print, with an input of which a read would fail.
 pub(crate) fn told<R: Threads + Wait + Sync>(
     rt: &R,
     alloc: Global,
@@ -104,8 +119,5 @@ pub(crate) fn told<R: Threads + Wait + Sync>(
     writes: &[u32],
 ) -> Result<(u8, MemSink), Fail> {
     let mut input = MemSource::new(Vec::new(alloc), 1, Vec::from_slice(alloc, &[0])?);
-    let mut output = MemSink::new(alloc, Vec::from_slice(alloc, writes)?);
-    let words = words(alloc, from)?;
-    let status = run(rt, alloc, &words, &mut input, &mut output, outside);
-    Ok((status, output))
+    told_with(rt, alloc, from, &mut input, outside, writes)
 }

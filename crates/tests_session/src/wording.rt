@@ -1,4 +1,4 @@
-// Words that ask for nothing that can be served.
+// Words that ask for nothing that can be served or administered.
 use crate::outsides::{PLAIN, outside, told};
 use std::test::Fail;
 
@@ -13,6 +13,10 @@ const WORDS: &'static [&'static [&'static str]] = &[
     &["serve", "-a", "8080", "1"],
     &["serve", "a", "8080"],
     &["serve", "a", "8080", "1", "1"],
+    &["admin"],
+    &["admin", ""],
+    &["admin", "-a"],
+    &["admin", "a", "b"],
 ];
 
 #[test]

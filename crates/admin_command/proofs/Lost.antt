@@ -5,14 +5,17 @@ use Rattle.book_rules.specs.History.{not_kept}
 use Rattle.book_rules.specs.declared.events.Entry.{Entry}
 use Rattle.admin_command.specs.Administering.{lost_from, lost_in}
 
+more_lost : (place : ℕ) (entry : Entry) (entries : List Entry) (kept : Bool) → entry.kept ≡ kept → length (lost_from (place + 1) entries) ≡ not_kept entries
+    → length (if kept then lost_from (place + 1) entries else place ∷ lost_from (place + 1) entries) ≡ not_kept (entry ∷ entries)
+more_lost place entry entries true e same =
+    same ∙ sym (sum_by-cons (λ (x : Entry). if x.kept then 0 else 1) entry entries ∙ ap (λ k. (if k then 0 else 1) + not_kept entries) e)
+more_lost place entry entries false e same =
+    ap suc same ∙ sym (sum_by-cons (λ (x : Entry). if x.kept then 0 else 1) entry entries ∙ ap (λ k. (if k then 0 else 1) + not_kept entries) e)
+
 -- there are as many as entries that are not kept
 pub as_many : (place : ℕ) (history : List Entry) → length (lost_from place history) ≡ not_kept history
 as_many place [] = refl
-as_many place (entry ∷ entries) = by_kept entry.kept
-  where
-    by_kept : (kept : Bool) → length (if kept then lost_from (place + 1) entries else place ∷ lost_from (place + 1) entries) ≡ not_kept (record { seat = entry.seat; event = entry.event; kept = kept } ∷ entries)
-    by_kept true = as_many (place + 1) entries ∙ omega (arith, sum_by-cons (λ (e : Entry). if e.kept then 0 else 1) (record { seat = entry.seat; event = entry.event; kept = true }) entries)
-    by_kept false = ap suc (as_many (place + 1) entries) ∙ omega (arith, sum_by-cons (λ (e : Entry). if e.kept then 0 else 1) (record { seat = entry.seat; event = entry.event; kept = false }) entries)
+as_many place (entry ∷ entries) = more_lost place entry entries entry.kept refl (as_many (place + 1) entries)
 
 -- each of them is at or behind the first place
 abbrev IsAtLeast : ℕ → List ℕ → Type 0
@@ -23,26 +26,29 @@ at_least_before : (place : ℕ) (places : List ℕ) → IsAtLeast (place + 1) pl
 at_least_before place [] h = tt
 at_least_before place (p ∷ places) h = (omega (arith, h.0), at_least_before place places h.1)
 
+more_at_least : (place : ℕ) (kept : Bool) (places : List ℕ) → IsAtLeast (place + 1) places → IsAtLeast place (if kept then places else place ∷ places)
+more_at_least place true places h = at_least_before place places h
+more_at_least place false places h = (omega arith, at_least_before place places h)
+
 at_least : (place : ℕ) (history : List Entry) → IsAtLeast place (lost_from place history)
 at_least place [] = tt
-at_least place (entry ∷ entries) = by_kept entry.kept
-  where
-    by_kept : (kept : Bool) → IsAtLeast place (if kept then lost_from (place + 1) entries else place ∷ lost_from (place + 1) entries)
-    by_kept true = at_least_before place (lost_from (place + 1) entries) (at_least (place + 1) entries)
-    by_kept false = (omega arith, at_least_before place (lost_from (place + 1) entries) (at_least (place + 1) entries))
+at_least place (entry ∷ entries) = more_at_least place entry.kept (lost_from (place + 1) entries) (at_least (place + 1) entries)
 
 -- a list that begins with a place below is none of those behind it
+head : List ℕ → ℕ
+head [] = 0
+head (x ∷ xs) = x
+
+tail : List ℕ → List ℕ
+tail [] = []
+tail (x ∷ xs) = xs
+
+below : (place q : ℕ) → place ≡ q → place + 1 ≤ q → ⊥
+below place q is le = omega (arith, is, le)
+
 not_behind : (place : ℕ) (places more : List ℕ) → IsAtLeast (place + 1) more → place ∷ places ≡ more → ⊥
 not_behind place places [] h e = cc
-not_behind place places (p ∷ more) h e = below p (head_is place places p more e) h.0
-  where
-    head : List ℕ → ℕ
-    head [] = 0
-    head (x ∷ xs) = x
-    head_is : (x : ℕ) (xs : List ℕ) (y : ℕ) (ys : List ℕ) → x ∷ xs ≡ y ∷ ys → x ≡ y
-    head_is x xs y ys same = ap head same
-    below : (q : ℕ) → place ≡ q → place + 1 ≤ q → ⊥
-    below q is le = omega (arith, is, le)
+not_behind place places (p ∷ more) h e = below place p (ap head e) h.0
 
 -- so the entry at a place is kept or not, as the places say
 by_both : (place : ℕ) (one other : Bool) (rest more : List ℕ) → IsAtLeast (place + 1) rest → IsAtLeast (place + 1) more
@@ -55,10 +61,6 @@ by_both place false true rest more h k e = absurd (not_behind place rest more k 
 drop_head : (place : ℕ) (kept : Bool) (rest more : List ℕ) → (if kept then rest else place ∷ rest) ≡ (if kept then more else place ∷ more) → rest ≡ more
 drop_head place true rest more e = e
 drop_head place false rest more e = ap tail e
-  where
-    tail : List ℕ → List ℕ
-    tail [] = []
-    tail (x ∷ xs) = xs
 
 pub kept_alike : (place : ℕ) (history : List Entry) (one other : Entry) (rest more : List Entry) → lost_from place (history ++ one ∷ rest) ≡ lost_from place (history ++ other ∷ more) → one.kept ≡ other.kept
 kept_alike place [] one other rest more e =

@@ -51,12 +51,6 @@ const ROWS: &'static [Row] = &[
         ..DONE
     },
     Row {
-        lines: "text 0 bye #if($a)\n",
-        said: "refused line 1 BadRecord at ~\n",
-        status: 1,
-        ..DONE
-    },
-    Row {
         lines: "text 0 bye #if($a)x\n",
         said: "refused line 1 Unclosed(0) at /text\n",
         status: 1,

@@ -15,9 +15,15 @@ use std::alloc::{AllocError, Global};
 use std::marker::Model;
 
 /// A router of the table.
-#[derive(Drop)]
 pub struct AdminPaths {
     router: Router<Form>,
+}
+
+impl Drop for AdminPaths {
+    fn drop(self) {
+        let Self { router } = self;
+        drop(router);
+    }
 }
 
 impl Model for AdminPaths {

@@ -1,8 +1,10 @@
 -- The routes of the administration.
-use Rattle.std.specs.Prelude.{◌≡◌, ◌≢◌, ◌↔◌, ℕ, ◌==◌, Bool, true, ◌&&◌, List, [], ◌∷◌, codes, Option, Some, None, if◌then◌else◌, ⊤}
+use Rattle.std.specs.Prelude.{◌≡◌, ◌≢◌, ◌↔◌, ℕ, ◌==◌, Bool, true, ◌&&◌, List, [], ◌∷◌, ◌++◌, codes, Option, Some, None, if◌then◌else◌, ⊤}
 use Rattle.std.specs.List.{slice_split}
 use Rattle.std.specs.Option.{option_and_then, option_map}
 use Rattle.std.specs.Str.{bytes_eq}
+use Rattle.admin_paths.specs.declared.paths.AdminPath.{AdminPath}
+use Rattle.admin_paths.specs.declared.paths.AdminPath.TheVariants as path
 use Rattle.call_facts.specs.declared.target.Target.{Target}
 use Rattle.record_fields.specs.Coding.{text_of}
 use Rattle.admin_routes.specs.declared.routes.Route.{Route}
@@ -51,6 +53,14 @@ route_in verb (first ∷ api ∷ kind ∷ stage ∷ []) =
     if is_put verb && is_apis first && bytes_eq kind (codes "stages") then option_and_then (λ a. stage_route a (parameter stage)) (parameter api) else None
 route_in verb (first ∷ api ∷ kind ∷ stage ∷ more ∷ rest) = None
 
+-- the path behind `/_admin/`, as one text
+abbrev pub behind_slash : List ℕ → List ℕ → List ℕ
+behind_slash stage [] = stage
+behind_slash stage (slash ∷ rest) = stage ++ 47 ∷ rest
+
+abbrev pub path_behind_admin : Target → List ℕ
+path_behind_admin target = behind_slash target.stage target.path
+
 -- the table of routes: the verb of each, its literals in their places, and its parameters
 abbrev pub verb_of : Route → List ℕ
 verb_of (PutDocument api) = codes "PUT"
@@ -58,6 +68,17 @@ verb_of (PutTemplate api) = codes "PUT"
 verb_of (Deploy api) = codes "POST"
 verb_of (PutStage api stage) = codes "PUT"
 verb_of Shutdown = codes "POST"
+
+-- the route at a path of the table
+abbrev pub route_of : AdminPath → Route
+route_of (path.Document api) = PutDocument api
+route_of (path.Template api) = PutTemplate api
+route_of (path.Deployments api) = Deploy api
+route_of (path.Stage api stage) = PutStage api stage
+route_of path.Shutdown = Shutdown
+
+abbrev pub route_at_path : List ℕ → AdminPath → Option Route
+route_at_path verb found = if bytes_eq verb (verb_of (route_of found)) then Some (route_of found) else None
 
 abbrev pub path_of : Route → List (List ℕ)
 path_of (PutDocument api) = codes "apis" ∷ api ∷ []

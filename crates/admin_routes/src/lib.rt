@@ -1,7 +1,7 @@
 //! Administration over HTTP: the routes, what a body asks for, and the answers.
 //!
 //! [`order_of`] tells what a request asks of the book, or how it is answered where it asks nothing: by [`find_route`], the route
-//! of its verb and target, and by [`ask_for`], what the body asks for. [`answer_reply`] makes the answer to what the book replied.
+//! of its verb and target, whose path a router finds (crate `admin_paths`), and by [`ask_for`], what the body asks for. [`answer_reply`] makes the answer to what the book replied.
 //! No such answer names a cause.
 //!
 //! ```text

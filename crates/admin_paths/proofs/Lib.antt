@@ -1,0 +1,6 @@
+-- segments without a slash
+mod Segments
+-- how rows are searched, by segments
+mod Steps
+-- how a router of the table searches
+mod Search

@@ -1,0 +1,33 @@
+//! The paths of the administration's table, found by a router.
+//!
+//! [`AdminPaths`] keeps a router of the five paths of the table, and finds which of them a path behind `/_admin/` is. Its answer
+//! has the parameters of the path.
+//!
+//! ```text
+//! let paths = AdminPaths::new(alloc)?;
+//! paths.find(alloc, "apis/hello/text")?                  // Some(Template { api: hello })
+//! paths.find(alloc, "apis/hello/text/")?                 // None: a segment more, without a byte
+//! ```
+//!
+//! | Path | Answer |
+//! |---|---|
+//! | `apis/{api}` | `Document { api }` |
+//! | `apis/{api}/text` | `Template { api }` |
+//! | `apis/{api}/deployments` | `Deployments { api }` |
+//! | `apis/{api}/stages/{stage}` | `Stage { api, stage }` |
+//! | `shutdown` | `Shutdown` |
+//! | `apis/`, `apis//text`, `apis/hello/`, `APIS/hello`, `shutdown/`, the empty path | none |
+//!
+//! A path is taken as it is written: nothing in it is decoded. A parameter is one segment that has a byte.
+//!
+//! What is promised: the answer is `path_in` of the path's segments, in `specs/`, where the table stands without a router. Want of
+//! memory alone has no cause. The router takes some sixty small pieces of memory when it is made, and none when it is asked; the
+//! parameters are copied.
+#![tactic(auto)]
+
+mod find;
+mod paths;
+mod table;
+
+pub use find::AdminPaths;
+pub use paths::AdminPath;

@@ -44,7 +44,7 @@ fn of_asked(alloc: Global, request: &Request, target: &Target, name: &str) -> Re
 }
 
 fn of_request(alloc: Global, occasion: Occasion, name: &str) -> Result<Value, Memory>
-    ensures { IfOk result (λ v. v ≡ of_request_of (occasion_of occasion) name.now) }
+    ensures { IfOk result (λ v. v ≡ of_request_of (occasion_of occasion.entry) name.now) }
 {
     match occasion {
         Occasion::Call(request, target) => of_asked(alloc, request, target, name),
@@ -74,7 +74,7 @@ fn of_call(
     name: &str,
 ) -> Result<Value, Memory>
     requires { facts.now.at < 2 ^ 63 }
-    ensures { IfOk result (λ v. v ≡ of_call_of (occasion_of occasion) facts.now name.now) }
+    ensures { IfOk result (λ v. v ≡ of_call_of (occasion_of occasion.entry) facts.now name.now) }
 {
     if name == "requestId" {
         request_number(alloc, facts.place)
@@ -97,7 +97,7 @@ fn context_named(
     name: &str,
 ) -> Result<Value, Memory>
     requires { facts.now.at < 2 ^ 63 }
-    ensures { IfOk result (λ v. v ≡ context_named_of (occasion_of occasion) facts.now name.now) }
+    ensures { IfOk result (λ v. v ≡ context_named_of (occasion_of occasion.entry) facts.now name.now) }
 {
     if name == "apiId" {
         text_value(alloc, facts.api.as_str())
@@ -112,7 +112,7 @@ fn context_named(
 
 // The agent by which a request was made.
 fn agent_of(alloc: Global, occasion: Occasion) -> Result<Value, Memory>
-    ensures { IfOk result (λ v. v ≡ agent_of_occasion (occasion_of occasion)) }
+    ensures { IfOk result (λ v. v ≡ agent_of_occasion (occasion_of occasion.entry)) }
 {
     match occasion {
         Occasion::Call(request, _) => found_value(
@@ -130,7 +130,7 @@ fn identity_named(
     facts: &CallFacts,
     name: &str,
 ) -> Result<Value, Memory>
-    ensures { IfOk result (λ v. v ≡ identity_named_of (occasion_of occasion) facts.now name.now) }
+    ensures { IfOk result (λ v. v ≡ identity_named_of (occasion_of occasion.entry) facts.now name.now) }
 {
     if name == "apiKeyId" {
         name_value(alloc, facts.key.as_ref())
@@ -175,7 +175,7 @@ fn told_named(alloc: Global, kind: Kind, message: &str, name: &str) -> Result<Va
 
 #[tactic(auto, unfolding(crate::specs::Facts::error_named))]
 fn error_named(alloc: Global, occasion: Occasion, name: &str) -> Result<Value, Memory>
-    ensures { IfOk result (λ v. v ≡ error_named_of (occasion_of occasion) name.now) }
+    ensures { IfOk result (λ v. v ≡ error_named_of (occasion_of occasion.entry) name.now) }
 {
     match occasion {
         Occasion::Call(_, _) => Ok(Value::null()),
@@ -190,7 +190,7 @@ fn context_part(
     group: &str,
     name: &str,
 ) -> Result<Value, Memory>
-    ensures { IfOk result (λ v. v ≡ context_part_of (occasion_of occasion) facts.now group.now name.now) }
+    ensures { IfOk result (λ v. v ≡ context_part_of (occasion_of occasion.entry) facts.now group.now name.now) }
 {
     if group == "identity" {
         identity_named(alloc, occasion, facts, name)
@@ -210,7 +210,7 @@ fn context_one(
     step: &Step,
 ) -> Result<Value, Memory>
     requires { facts.now.at < 2 ^ 63 }
-    ensures { IfOk result (λ v. v ≡ context_one_of (occasion_of occasion) facts.now (stepped_of step.now)) }
+    ensures { IfOk result (λ v. v ≡ context_one_of (occasion_of occasion.entry) facts.now (stepped_of step.now)) }
 {
     match step {
         Step::Name(name) => context_named(alloc, occasion, facts, name.as_str()),
@@ -226,7 +226,7 @@ fn context_two(
     step: &Step,
     behind: &Step,
 ) -> Result<Value, Memory>
-    ensures { IfOk result (λ v. v ≡ context_two_of (occasion_of occasion) facts.now (stepped_of step.now) (stepped_of behind.now)) }
+    ensures { IfOk result (λ v. v ≡ context_two_of (occasion_of occasion.entry) facts.now (stepped_of step.now) (stepped_of behind.now)) }
 {
     match step {
         Step::Name(group) => context_below(alloc, occasion, facts, group.as_str(), behind),
@@ -242,7 +242,7 @@ fn context_below(
     group: &str,
     step: &Step,
 ) -> Result<Value, Memory>
-    ensures { IfOk result (λ v. v ≡ context_below_of (occasion_of occasion) facts.now group.now (stepped_of step.now)) }
+    ensures { IfOk result (λ v. v ≡ context_below_of (occasion_of occasion.entry) facts.now group.now (stepped_of step.now)) }
 {
     match step {
         Step::Name(name) => context_part(alloc, occasion, facts, group, name.as_str()),
@@ -260,7 +260,7 @@ pub fn context_value(
     path: &[Step],
 ) -> Result<Value, Memory>
     requires { facts.now.at < 2 ^ 63 }
-    ensures { IfOk result (λ v. v ≡ context_value_of (occasion_of occasion) facts.now (map stepped_of path.now)) }
+    ensures { IfOk result (λ v. v ≡ context_value_of (occasion_of occasion.entry) facts.now (map stepped_of path.now)) }
 {
     match only_step(path) {
         Some(step) => context_one(alloc, occasion, facts, step),

@@ -42,6 +42,20 @@ impl<'a> FailureRoots<'a> {
             facts,
         }
     }
+
+    /// The kind of the response.
+    pub fn kind(&self) -> Kind
+        ensures { result ≡ self.now.kind }
+    {
+        self.kind
+    }
+
+    /// Its message.
+    pub fn message(&self) -> &'a str
+        ensures { result.now ≡ self.now.message }
+    {
+        self.message
+    }
 }
 
 impl<'a> Roots for FailureRoots<'a> {

@@ -68,7 +68,7 @@ mod table;
 mod texts;
 mod util;
 
-pub use changes::Overrides;
+pub use changes::{Overrides, printed_text};
 pub use codings::{base64_decode, base64_encode, url_decode, url_encode};
 pub use context::{context_value, variable_value};
 pub use documents::{node_value, parse_json, read_document};

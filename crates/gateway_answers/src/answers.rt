@@ -78,7 +78,7 @@ fn answer_by(
 {
     let kind = roots.kind();
     let given = given(alloc, roots, headers_in(rule))?;
-    let headers = headers_of(alloc, kind, given)?;
+    let headers = headers_of(alloc, kind, &given)?;
     let body = body_by(alloc, template_in(rule), roots)?;
     Ok(Answer {
         status: status_by(rule, kind),

@@ -1,7 +1,6 @@
 // The headers of a gateway response.
-ghost use Rattle.std.specs.Prelude.{◌≡◌, ◌++◌, not, codes, Some, IfOk, OnOk};
-ghost use Rattle.std.specs.List.{filter, list_all};
-ghost use Rattle.std.specs.Option.{unwrap_or};
+ghost use Rattle.std.specs.Prelude.{◌≡◌, ◌++◌, IfOk, OnOk};
+ghost use Rattle.std.specs.List.{list_all};
 ghost use Rattle.gateway_answers.specs.Headers.{content_type as content_type_of, given as given_of, given_header as given_header_of, headers_of as headers_of_kind, if_written as if_written_of, is_content_type as is_content_type_of, is_value_byte as is_value_byte_of, may_be_written as may_be_written_of, others as others_of};
 
 use crate::values::value_of;
@@ -99,12 +98,17 @@ fn content_type(alloc: Global, headers: &[(Text, Text)]) -> Result<Text, Memory>
     }
 }
 
-fn put_others(made: &mut Seq<(Text, Text)>, headers: Vec<(Text, Text)>) -> Result<(), Memory>
-    ensures { OnOk result (made.new ≡ made.old ++ others_of headers.items) }
+// Adds the headers, but for each content type.
+fn push_others(
+    alloc: Global,
+    made: &mut Vec<(Text, Text)>,
+    headers: &[(Text, Text)],
+) -> Result<(), Memory>
+    ensures { OnOk result (made.new.items ≡ made.old.items ++ others_of headers.now) }
 {
     for header in headers {
-        if !is_content_type(&header) {
-            made.push(header)?;
+        if !is_content_type(header) {
+            made.push((header.0.copy(alloc)?, header.1.copy(alloc)?))?;
         }
     }
     Ok(())
@@ -114,15 +118,14 @@ fn put_others(made: &mut Seq<(Text, Text)>, headers: Vec<(Text, Text)>) -> Resul
 pub(crate) fn headers_of(
     alloc: Global,
     kind: Kind,
-    given: Vec<(Text, Text)>,
+    given: &[(Text, Text)],
 ) -> Result<Seq<(Text, Text)>, Memory>
-    ensures { IfOk result (λ made. made ≡ headers_of_kind kind given.items) }
+    ensures { IfOk result (λ made. made ≡ headers_of_kind kind given.now) }
 {
-    let mut made = Seq::new(alloc);
-    let content_type = content_type(alloc, given.as_slice())?;
-    made.push((text(alloc, "content-type")?, content_type))?;
-    put_others(&mut made, given)?;
+    let mut made = Vec::new(alloc);
+    made.push((text(alloc, "content-type")?, content_type(alloc, given)?))?;
+    push_others(alloc, &mut made, given)?;
     let cause = Text::of(kind.to_string(alloc)?);
     made.push((text(alloc, "x-gateway-cause")?, cause))?;
-    Ok(made)
+    Ok(Seq::of(made))
 }

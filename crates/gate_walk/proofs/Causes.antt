@@ -13,8 +13,18 @@ use Rattle.call_facts.specs.Target.{target_of}
 use Rattle.call_facts.specs.declared.kind.Kind.{Kind}
 use Rattle.call_facts.specs.declared.request.Request.{Request}
 use Rattle.call_facts.specs.declared.target.Target.{Target}
-use Rattle.gate_walk.specs.Answering.{made_at, made_by, made_for}
-use Rattle.gate_walk.specs.Laws.{NamesItsCause, causes_in, names_of}
+use Rattle.gate_walk.specs.Answering.{facts_of, made_at, made_by, made_for, too_large_made}
+use Rattle.gateway_answers.proofs.Causes.{names_one_cause}
+use Rattle.gateway_answers.specs.Answers.{failed_made}
+use Rattle.gateway_answers.specs.Causes.{causes_in}
+use Rattle.method_answers.specs.Answers.{method_made, routed_made, checked_made}
+use Rattle.method_checks.specs.Routing.{route_of}
+use Rattle.method_checks.specs.Validating.{failed_check}
+use Rattle.method_checks.specs.declared.routes.Route.{Route}
+use Rattle.method_checks.specs.declared.routes.Route.TheVariants.{TextApi, Hit, Missing}
+use Rattle.api_model.specs.Definition.{Definition}
+use Rattle.call_facts.specs.declared.facts.CallFacts.{CallFacts}
+use Rattle.gate_walk.specs.Laws.{NamesItsCause, names_of}
 use Rattle.gate_walk.specs.Walk.{administered, is_head, leaves, walk, way_to}
 use Rattle.gate_walk.specs.declared.message.Message.{Message}
 use Rattle.gate_walk.proofs.Ways.{Each, each_answer}
@@ -41,9 +51,25 @@ unfolding text_answer
 of_text (Ok rendered) = refl
 of_text (Err stop) = of_gateway _
 
+of_failure : (kind : Kind) (message : List ℕ) (d : Option Definition) (f : CallFacts) → Names (failed_made kind message d f)
+of_failure kind message d f = names_one_cause kind message d f
+
+of_check : (d : Definition) (f : CallFacts) (failed : Option (Kind × List ℕ)) → Names (checked_made d f failed)
+of_check d f (Some failed) = of_failure _ _ _ _
+of_check d f None = of_failure _ _ _ _
+
+of_found : (d : Definition) (r : Request) (target : Target) (f : CallFacts) (route : Route) → Names (routed_made d r target f route)
+of_found d r target f TextApi = of_failure _ _ _ _
+of_found d r target f (Hit found method) = of_check _ _ _
+of_found d r target f Missing = of_failure _ _ _ _
+
+of_method : (d : Definition) (r : Request) (target : Target) (f : CallFacts) → Names (method_made d r target f)
+unfolding method_made
+of_method d r target f = of_found d r target f (route_of d r target)
+
 at_view : (is_text : Bool) (view : View) (r : Request) (target : Target) → Names (made_at is_text view r target)
 at_view true view r target = of_text _
-at_view false view r target = of_gateway _
+at_view false view r target = of_method _ _ _ _
 
 by_reply : (reply : Reply) (r : Request) (target : Target) → Names (made_by reply r target)
 by_reply (Entered view) r target = at_view view.api.is_text view r target
@@ -54,8 +80,17 @@ by_reply Done r target = of_gateway _
 by_reply (Deployed number) r target = of_gateway _
 by_reply (Refused refusal) r target = of_gateway _
 
+by_size : (reply : Reply) (target : Target) → Names (too_large_made reply target)
+by_size (Entered view) target = of_failure _ _ _ _
+by_size NoStage target = of_gateway _
+by_size Store target = of_gateway _
+by_size (Left closing) target = of_gateway _
+by_size Done target = of_gateway _
+by_size (Deployed number) target = of_gateway _
+by_size (Refused refusal) target = of_gateway _
+
 for_message : (large : Bool) (reply : Reply) (r : Request) (target : Target) → Names (made_for large reply r target)
-for_message true reply r target = of_gateway _
+for_message true reply r target = by_size reply target
 for_message false reply r target = by_reply reply r target
 
 abbrev Named : Message → Option Kind → List ℕ → Bool → Bool → Type 0

@@ -1,12 +1,15 @@
 -- The answer to a message, and its cause.
-use Rattle.std.specs.Prelude.{Bool, true, false, [], None}
+use Rattle.std.specs.Prelude.{Bool, true, false, [], Some, None}
 use Rattle.book_rules.specs.declared.replies.Reply.{Reply}
 use Rattle.book_rules.specs.declared.replies.Reply.TheVariants.{Entered}
 use Rattle.book_rules.specs.declared.replies.View.{View}
 use Rattle.call_facts.specs.declared.facts.CallFacts.{CallFacts}
-use Rattle.call_facts.specs.declared.kind.Kind.TheVariants.{ApiConfigurationError, RequestTooLarge, UnknownStage}
+use Rattle.call_facts.specs.Kinds.{kind_message}
+use Rattle.call_facts.specs.declared.kind.Kind.TheVariants.{RequestTooLarge, UnknownStage}
 use Rattle.call_facts.specs.declared.request.Request.{Request}
 use Rattle.call_facts.specs.declared.target.Target.{Target}
+use Rattle.gateway_answers.specs.Answers.{failed_made}
+use Rattle.method_answers.specs.Answers.{method_made}
 use Rattle.method_flow.specs.Answers.{gateway_made, text_over, text_made}
 use Rattle.method_flow.specs.declared.answers.Made.{Made}
 use Rattle.vtl_grammar.specs.Templates.{tree_of}
@@ -27,17 +30,22 @@ facts_of target view = record {
   error = None;
 }
 
--- under a stage that has this view: a text API answers with its template, and an API of a document is not answered yet
+-- under a stage that has this view: a text API answers with its template, and an API that is a document by its methods
 abbrev pub made_at : Bool → View → Request → Target → Made
 made_at true view r target = text_made (text_over r target (facts_of target view) (tree_of view.api.source))
-made_at false view r target = gateway_made ApiConfigurationError
+made_at false view r target = method_made view.api r target (facts_of target view)
 
 -- to a whole message whose Enter was replied so
 abbrev pub made_by : Reply → Request → Target → Made
 made_by (Entered view) r target = made_at view.api.is_text view r target
 made_by reply r target = gateway_made UnknownStage
 
+-- to a message whose body is too large: where its stage stands, by the rules of that stage's API
+abbrev pub too_large_made : Reply → Target → Made
+too_large_made (Entered view) target = failed_made RequestTooLarge (kind_message RequestTooLarge) (Some view.api) (facts_of target view)
+too_large_made reply target = gateway_made RequestTooLarge
+
 -- the size of a body is tested before its stage
 abbrev pub made_for : Bool → Reply → Request → Target → Made
-made_for true reply r target = gateway_made RequestTooLarge
+made_for true reply r target = too_large_made reply target
 made_for false reply r target = made_by reply r target

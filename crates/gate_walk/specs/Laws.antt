@@ -1,11 +1,10 @@
 -- What holds of ways and of histories.
-use Rattle.std.specs.Prelude.{◌≡◌, ℕ, Bool, List, [], ◌∷◌, ◌++◌, map, Option, Some, None, codes}
-use Rattle.std.specs.List.{filter}
-use Rattle.std.specs.Str.{bytes_eq}
+use Rattle.std.specs.Prelude.{◌≡◌, ℕ, Bool, List, [], ◌∷◌, ◌++◌, Option, Some, None}
 use Rattle.book_rules.specs.History.{Base}
 use Rattle.book_rules.specs.declared.events.Entry.{Entry}
 use Rattle.call_facts.specs.Kinds.{kind_name}
 use Rattle.call_facts.specs.declared.kind.Kind.{Kind}
+use Rattle.gateway_answers.specs.Causes.{causes_in}
 use Rattle.gate_walk.specs.Acts.{Act, Goes, Stand, entries_of}
 use Rattle.gate_walk.specs.Walk.{answers, is_head, walk}
 use Rattle.gate_walk.specs.declared.message.Message.{Message}
@@ -16,10 +15,6 @@ use Rattle.method_flow.specs.declared.answers.Made.{Made}
 abbrev pub StandsInLonger : Type 0
 StandsInLonger =
     (base : Base) (n : ℕ) (acts : List Act) (before after more : List Entry) → Stand base n before acts after → entries_of n more ≡ [] → Stand base n before acts (after ++ more)
-
--- the causes that the headers of an answer name
-abbrev pub causes_in : List (List ℕ × List ℕ) → List (List ℕ)
-causes_in headers = map (λ (h : List ℕ × List ℕ). h.1) (filter (λ (h : List ℕ × List ℕ). bytes_eq h.0 (codes "x-gateway-cause")) headers)
 
 abbrev pub names_of : Option Kind → List (List ℕ)
 names_of None = []

@@ -1,11 +1,13 @@
 // The answer to a message, and its cause.
 ghost use Rattle.std.specs.Prelude.{◌≡◌, ◌≢◌, ◌<◌, [], Some, None, Ok, Err, IfOk};
 ghost use Rattle.book_rules.specs.Times.{IsInTime};
-ghost use Rattle.gate_walk.specs.Answering.{facts_of as facts_of_view, made_at, made_by, made_for};
+ghost use Rattle.gate_walk.specs.Answering.{facts_of as facts_of_view, made_at, made_by, made_for, too_large_made};
 
 use book_rules::{Reply, View};
 use call_facts::{CallFacts, Kind, Request, Target};
+use gateway_answers::fail_by;
 use gw_base::{Memory, Text};
+use method_answers::answer_method;
 use method_flow::{Made, answer_itself, answer_text};
 use std::alloc::Global;
 
@@ -28,16 +30,17 @@ fn facts_of(alloc: Global, target: &Target, view: &View) -> Result<CallFacts, Me
     })
 }
 
-// Under a stage that has this view; only text APIs are answered yet.
+// Under a stage that has this view.
 fn answer_at(alloc: Global, view: &View, request: &Request, target: &Target) -> Result<Made, Memory>
     requires { view.now.at < 4102444800000 }
     ensures { IfOk result (λ made. made ≡ made_at view.now.api.is_text view.now request.now target.now) }
 {
-    let Some(template) = view.api.value().text_template() else {
-        return answer_itself(alloc, Kind::ApiConfigurationError);
-    };
     let facts = facts_of(alloc, target, view)?;
-    answer_text(alloc, template, request, target, &facts)
+    let api = view.api.value();
+    match api.text_template() {
+        Some(template) => answer_text(alloc, template, request, target, &facts),
+        None => answer_method(alloc, api, request, target, facts),
+    }
 }
 
 // To a whole message whose Enter was replied so.
@@ -56,6 +59,21 @@ fn answer_by(
     }
 }
 
+// To a message whose body is too large.
+fn refuse_size(alloc: Global, reply: &Reply, target: &Target) -> Result<Made, Memory>
+    requires { IsInTime reply.now }
+    ensures { IfOk result (λ made. made ≡ too_large_made reply.now target.now) }
+{
+    let kind = Kind::RequestTooLarge;
+    match reply {
+        Reply::Entered(view) => {
+            let facts = facts_of(alloc, target, view)?;
+            fail_by(alloc, kind, kind.message(), Some(view.api.value()), &facts)
+        }
+        _ => answer_itself(alloc, kind),
+    }
+}
+
 /// To a message whose Enter was replied so; the size of its body is tested before its stage.
 pub fn answer_for(
     alloc: Global,
@@ -68,7 +86,7 @@ pub fn answer_for(
     ensures { IfOk result (λ made. made ≡ made_for too_large reply.now request.now target.now) }
 {
     if too_large {
-        answer_itself(alloc, Kind::RequestTooLarge)
+        refuse_size(alloc, reply, target)
     } else {
         answer_by(alloc, reply, request, target)
     }

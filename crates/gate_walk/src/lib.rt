@@ -15,9 +15,10 @@
 //! | A message | Its way |
 //! |---|---|
 //! | to a stage of a text API | Enter, Leave with 200; the text of the template over the view of its Enter |
+//! | to a stage of an API that is a document | Enter, Leave; the first of its route, its parameters and its body that fails is answered, else 500 and `API_CONFIGURATION_ERROR`: no method is integrated yet |
 //! | whose render stops | Enter, Leave with 500 and `API_CONFIGURATION_ERROR` |
 //! | to a stage that is not there | Enter, Leave with 403 and `UNKNOWN_STAGE` |
-//! | whose body is too large | Enter, Leave with 413 and `REQUEST_TOO_LARGE`, whatever its stage; the connection closes |
+//! | whose body is too large | Enter, Leave with 413 and `REQUEST_TOO_LARGE`, whatever its stage, but for the rules of that stage's API; the connection closes |
 //! | to the administration | the command, if one is asked for, and Leave with the answer to its reply; no cause |
 //! | where the session is full | the step in hand, refused: nothing follows |
 //!

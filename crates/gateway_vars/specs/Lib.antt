@@ -16,6 +16,8 @@ pub mod Input
 pub mod Params
 -- $context and $stageVariables
 pub mod Facts
+-- the program's occasions
+pub mod Occasions
 -- $util
 pub mod Util
 -- which paths below $context may be written

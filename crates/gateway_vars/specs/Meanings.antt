@@ -1,6 +1,7 @@
 -- The program's roots, and what they mean.
+use Rattle.std.specs.Prelude.{None}
 use Rattle.vtl_eval.specs.Roots.{Meanings, Kept}
-use Rattle.gateway_vars.specs.Held.{Held, root}
+use Rattle.gateway_vars.specs.Held.{Held, root, Failed, failure_root}
 use Rattle.gateway_vars.specs.Rows.{kept_of}
 use Rattle.gateway_vars.specs.Writing.{kept_at}
 use Rattle.gateway_vars.specs.declared.roots.RequestRoots.{RequestRoots}
@@ -24,3 +25,7 @@ response_held r = r.sources
 
 abbrev pub response_kept : ResponseRoots → Kept
 response_kept r = kept_of r.rows.items
+
+-- in a gateway response no path may be written
+abbrev pub failure_meanings : Failed → Meanings
+failure_meanings failed = record { value = failure_root failed; kept_at = λ path. None }

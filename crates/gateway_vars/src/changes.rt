@@ -125,7 +125,8 @@ fn changed(
     }
 }
 
-fn printed(alloc: Global, value: &Value) -> Result<Text, Memory>
+/// A value as it is printed. [`Memory`] is answered for one of more than 268,435,456 bytes too.
+pub fn printed_text(alloc: Global, value: &Value) -> Result<Text, Memory>
     ensures { IfOk result (λ text. text ≡ printed_of value.now) }
 {
     let mut text = String::new(alloc);
@@ -145,7 +146,7 @@ fn after_write(
 {
     match slot_of(side, row.path.as_slice()) {
         Some((part, name)) => {
-            let text = printed(alloc, &row.value)?;
+            let text = printed_text(alloc, &row.value)?;
             changed(alloc, changes, part, name, text)
         }
         None => Ok(changes),

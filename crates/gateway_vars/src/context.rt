@@ -7,12 +7,14 @@ ghost use Rattle.vtl_values.specs.Val.{text as text_val};
 ghost use Rattle.gateway_vars.specs.Escapes.{hex_digits};
 ghost use Rattle.call_facts.specs.Pairs.{last_value as last_of};
 ghost use Rattle.gateway_vars.specs.Values.{text_or_null};
-ghost use Rattle.gateway_vars.specs.Facts.{stage_path as stage_path_of, of_request as of_request_of, of_call as of_call_of, context_named as context_named_of, identity_named as identity_named_of, claim_named as claim_named_of, error_named as error_named_of, context_part as context_part_of, context_one as context_one_of, context_two as context_two_of, context_below as context_below_of, context_value as context_value_of, variable_step as variable_step_of, variable_value as variable_value_of};
+ghost use Rattle.gateway_vars.specs.Occasions.{occasion_of};
+ghost use Rattle.gateway_vars.specs.Facts.{call, failure, agent_of as agent_of_occasion, stage_path as stage_path_of, of_request as of_request_of, of_call as of_call_of, context_named as context_named_of, identity_named as identity_named_of, claim_named as claim_named_of, error_named as error_named_of, context_part as context_part_of, context_one as context_one_of, context_two as context_two_of, context_below as context_below_of, context_value as context_value_of, variable_step as variable_step_of, variable_value as variable_value_of};
 
 use crate::escapes::{json_string, push_digits};
+use crate::occasion::Occasion;
 use crate::steps::{both_steps, only_step};
 use crate::texts::{found_value, made_value, name_value, text_value};
-use call_facts::{CallFacts, Request, Target, first_value, header_value, last_value};
+use call_facts::{CallFacts, Kind, Request, Target, first_value, header_value, last_value};
 use gw_base::{Memory, Text};
 use itoa::Buffer;
 use std::alloc::Global;
@@ -29,13 +31,8 @@ fn stage_path(alloc: Global, target: &Target) -> Result<String, Memory>
     Ok(made)
 }
 
-fn of_request(
-    alloc: Global,
-    request: &Request,
-    target: &Target,
-    name: &str,
-) -> Result<Value, Memory>
-    ensures { IfOk result (λ v. v ≡ of_request_of request.now target.now name.now) }
+fn of_asked(alloc: Global, request: &Request, target: &Target, name: &str) -> Result<Value, Memory>
+    ensures { IfOk result (λ v. v ≡ of_request_of (call request.now target.now) name.now) }
 {
     if name == "httpMethod" {
         text_value(alloc, request.method.as_str())
@@ -43,6 +40,15 @@ fn of_request(
         made_value(stage_path(alloc, target)?)
     } else {
         Ok(Value::null())
+    }
+}
+
+fn of_request(alloc: Global, occasion: Occasion, name: &str) -> Result<Value, Memory>
+    ensures { IfOk result (λ v. v ≡ of_request_of (occasion_of occasion.entry) name.now) }
+{
+    match occasion {
+        Occasion::Call(request, target) => of_asked(alloc, request, target, name),
+        Occasion::Failure(_, _) => Ok(Value::null()),
     }
 }
 
@@ -63,13 +69,12 @@ fn deployment_number(alloc: Global, deployment: u32) -> Result<Value, Memory>
 
 fn of_call(
     alloc: Global,
-    request: &Request,
-    target: &Target,
+    occasion: Occasion,
     facts: &CallFacts,
     name: &str,
 ) -> Result<Value, Memory>
     requires { facts.now.at < 2 ^ 63 }
-    ensures { IfOk result (λ v. v ≡ of_call_of request.now target.now facts.now name.now) }
+    ensures { IfOk result (λ v. v ≡ of_call_of (occasion_of occasion.entry) facts.now name.now) }
 {
     if name == "requestId" {
         request_number(alloc, facts.place)
@@ -80,20 +85,19 @@ fn of_call(
     } else if name == "isCanaryRequest" {
         Ok(Value::boolean(facts.canary))
     } else {
-        of_request(alloc, request, target, name)
+        of_request(alloc, occasion, name)
     }
 }
 
 #[tactic(auto, unfolding(crate::specs::Facts::context_named))]
 fn context_named(
     alloc: Global,
-    request: &Request,
-    target: &Target,
+    occasion: Occasion,
     facts: &CallFacts,
     name: &str,
 ) -> Result<Value, Memory>
     requires { facts.now.at < 2 ^ 63 }
-    ensures { IfOk result (λ v. v ≡ context_named_of request.now target.now facts.now name.now) }
+    ensures { IfOk result (λ v. v ≡ context_named_of (occasion_of occasion.entry) facts.now name.now) }
 {
     if name == "apiId" {
         text_value(alloc, facts.api.as_str())
@@ -102,28 +106,38 @@ fn context_named(
     } else if name == "resourcePath" {
         text_value(alloc, facts.resource.as_str())
     } else {
-        of_call(alloc, request, target, facts, name)
+        of_call(alloc, occasion, facts, name)
+    }
+}
+
+// The agent by which a request was made.
+fn agent_of(alloc: Global, occasion: Occasion) -> Result<Value, Memory>
+    ensures { IfOk result (λ v. v ≡ agent_of_occasion (occasion_of occasion.entry)) }
+{
+    match occasion {
+        Occasion::Call(request, _) => found_value(
+            alloc,
+            header_value(request.headers.as_slice(), "user-agent"),
+        ),
+        Occasion::Failure(_, _) => Ok(Value::null()),
     }
 }
 
 #[tactic(auto, unfolding(crate::specs::Facts::identity_named))]
 fn identity_named(
     alloc: Global,
-    request: &Request,
+    occasion: Occasion,
     facts: &CallFacts,
     name: &str,
 ) -> Result<Value, Memory>
-    ensures { IfOk result (λ v. v ≡ identity_named_of request.now facts.now name.now) }
+    ensures { IfOk result (λ v. v ≡ identity_named_of (occasion_of occasion.entry) facts.now name.now) }
 {
     if name == "apiKeyId" {
         name_value(alloc, facts.key.as_ref())
     } else if name == "sourceIp" {
         text_value(alloc, "127.0.0.1")
     } else if name == "userAgent" {
-        found_value(
-            alloc,
-            header_value(request.headers.as_slice(), "user-agent"),
-        )
+        agent_of(alloc, occasion)
     } else {
         Ok(Value::null())
     }
@@ -145,40 +159,45 @@ fn claim_named(alloc: Global, facts: &CallFacts, name: &str) -> Result<Value, Me
 }
 
 #[tactic(auto, unfolding(crate::specs::Facts::error_named))]
-fn error_named(alloc: Global, facts: &CallFacts, name: &str) -> Result<Value, Memory>
-    ensures { IfOk result (λ v. v ≡ error_named_of facts.now name.now) }
+fn told_named(alloc: Global, kind: Kind, message: &str, name: &str) -> Result<Value, Memory>
+    ensures { IfOk result (λ v. v ≡ error_named_of (failure kind message.now) name.now) }
 {
-    match &facts.error {
-        Some((kind, message)) => {
-            if name == "message" {
-                text_value(alloc, message.as_str())
-            } else if name == "messageString" {
-                made_value(json_string(alloc, message.as_str())?)
-            } else if name == "responseType" {
-                made_value(kind.to_string(alloc)?)
-            } else {
-                Ok(Value::null())
-            }
-        }
-        None => Ok(Value::null()),
+    if name == "message" {
+        text_value(alloc, message)
+    } else if name == "messageString" {
+        made_value(json_string(alloc, message)?)
+    } else if name == "responseType" {
+        made_value(kind.to_string(alloc)?)
+    } else {
+        Ok(Value::null())
+    }
+}
+
+#[tactic(auto, unfolding(crate::specs::Facts::error_named))]
+fn error_named(alloc: Global, occasion: Occasion, name: &str) -> Result<Value, Memory>
+    ensures { IfOk result (λ v. v ≡ error_named_of (occasion_of occasion.entry) name.now) }
+{
+    match occasion {
+        Occasion::Call(_, _) => Ok(Value::null()),
+        Occasion::Failure(kind, message) => told_named(alloc, kind, message, name),
     }
 }
 
 fn context_part(
     alloc: Global,
-    request: &Request,
+    occasion: Occasion,
     facts: &CallFacts,
     group: &str,
     name: &str,
 ) -> Result<Value, Memory>
-    ensures { IfOk result (λ v. v ≡ context_part_of request.now facts.now group.now name.now) }
+    ensures { IfOk result (λ v. v ≡ context_part_of (occasion_of occasion.entry) facts.now group.now name.now) }
 {
     if group == "identity" {
-        identity_named(alloc, request, facts, name)
+        identity_named(alloc, occasion, facts, name)
     } else if group == "authorizer" {
         claim_named(alloc, facts, name)
     } else if group == "error" {
-        error_named(alloc, facts, name)
+        error_named(alloc, occasion, name)
     } else {
         Ok(Value::null())
     }
@@ -186,16 +205,15 @@ fn context_part(
 
 fn context_one(
     alloc: Global,
-    request: &Request,
-    target: &Target,
+    occasion: Occasion,
     facts: &CallFacts,
     step: &Step,
 ) -> Result<Value, Memory>
     requires { facts.now.at < 2 ^ 63 }
-    ensures { IfOk result (λ v. v ≡ context_one_of request.now target.now facts.now (stepped_of step.now)) }
+    ensures { IfOk result (λ v. v ≡ context_one_of (occasion_of occasion.entry) facts.now (stepped_of step.now)) }
 {
     match step {
-        Step::Name(name) => context_named(alloc, request, target, facts, name.as_str()),
+        Step::Name(name) => context_named(alloc, occasion, facts, name.as_str()),
         Step::Index(_) => Ok(Value::null()),
         Step::Call(_, _) => Ok(Value::null()),
     }
@@ -203,15 +221,15 @@ fn context_one(
 
 fn context_two(
     alloc: Global,
-    request: &Request,
+    occasion: Occasion,
     facts: &CallFacts,
     step: &Step,
     behind: &Step,
 ) -> Result<Value, Memory>
-    ensures { IfOk result (λ v. v ≡ context_two_of request.now facts.now (stepped_of step.now) (stepped_of behind.now)) }
+    ensures { IfOk result (λ v. v ≡ context_two_of (occasion_of occasion.entry) facts.now (stepped_of step.now) (stepped_of behind.now)) }
 {
     match step {
-        Step::Name(group) => context_below(alloc, request, facts, group.as_str(), behind),
+        Step::Name(group) => context_below(alloc, occasion, facts, group.as_str(), behind),
         Step::Index(_) => Ok(Value::null()),
         Step::Call(_, _) => Ok(Value::null()),
     }
@@ -219,15 +237,15 @@ fn context_two(
 
 fn context_below(
     alloc: Global,
-    request: &Request,
+    occasion: Occasion,
     facts: &CallFacts,
     group: &str,
     step: &Step,
 ) -> Result<Value, Memory>
-    ensures { IfOk result (λ v. v ≡ context_below_of request.now facts.now group.now (stepped_of step.now)) }
+    ensures { IfOk result (λ v. v ≡ context_below_of (occasion_of occasion.entry) facts.now group.now (stepped_of step.now)) }
 {
     match step {
-        Step::Name(name) => context_part(alloc, request, facts, group, name.as_str()),
+        Step::Name(name) => context_part(alloc, occasion, facts, group, name.as_str()),
         Step::Index(_) => Ok(Value::null()),
         Step::Call(_, _) => Ok(Value::null()),
     }
@@ -237,18 +255,17 @@ fn context_below(
 #[tactic(auto, unfolding(crate::specs::Facts::context_value))]
 pub fn context_value(
     alloc: Global,
-    request: &Request,
-    target: &Target,
+    occasion: Occasion,
     facts: &CallFacts,
     path: &[Step],
 ) -> Result<Value, Memory>
     requires { facts.now.at < 2 ^ 63 }
-    ensures { IfOk result (λ v. v ≡ context_value_of request.now target.now facts.now (map stepped_of path.now)) }
+    ensures { IfOk result (λ v. v ≡ context_value_of (occasion_of occasion.entry) facts.now (map stepped_of path.now)) }
 {
     match only_step(path) {
-        Some(step) => context_one(alloc, request, target, facts, step),
+        Some(step) => context_one(alloc, occasion, facts, step),
         None => match both_steps(path) {
-            Some((step, behind)) => context_two(alloc, request, facts, step, behind),
+            Some((step, behind)) => context_two(alloc, occasion, facts, step, behind),
             None => Ok(Value::null()),
         },
     }

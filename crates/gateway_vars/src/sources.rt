@@ -5,6 +5,7 @@ ghost use Rattle.gateway_vars.specs.Held.{root as root_of, params_of};
 
 use crate::context::{context_value, variable_value};
 use crate::input::{Params, input_value};
+use crate::occasion::Occasion;
 use crate::payload::Payload;
 use crate::util::util_value;
 use call_facts::{CallFacts, Request, Target};
@@ -72,7 +73,10 @@ impl<'a> Sources<'a> {
                 };
                 input_value(alloc, &self.body, params, path)
             }
-            Root::Context => context_value(alloc, self.request, self.target, self.facts, path),
+            Root::Context => {
+                let occasion = Occasion::Call(self.request, self.target);
+                context_value(alloc, occasion, self.facts, path)
+            },
             Root::Util => util_value(alloc, path),
             Root::StageVariables => variable_value(alloc, self.facts, path),
         }

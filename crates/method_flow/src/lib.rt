@@ -13,11 +13,11 @@
 //!
 //! What is promised: each answer is that of the definition of its name (`specs/Answers.antt`), with the one cause that it names;
 //! [`render_text`] gives the text, or the limit that the render meets first, by the definition of rendering in `vtl_eval` with the
-//! roots of `gateway_vars`; the budget of a render stands here alone. Left out: routes, checks and integrations.
+//! roots of `gateway_vars`; the budget of a render, [`BUDGET`], stands here alone. Left out: routes, checks and integrations.
 #![tactic(auto)]
 
 mod answers;
 mod texts;
 
 pub use answers::{Made, answer_itself};
-pub use texts::{answer_text, render_text};
+pub use texts::{BUDGET, answer_text, render_text};

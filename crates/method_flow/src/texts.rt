@@ -13,7 +13,7 @@ use vtl_eval::{Rendered, Stop, render};
 use vtl_reader::Template;
 
 /// The most evaluated nodes of a render.
-const BUDGET: u64 = 1_000_000;
+pub const BUDGET: u64 = 1_000_000;
 
 fn nothing_found(alloc: Global) -> Found
     ensures { result ≡ nothing_found_of }

@@ -1,6 +1,6 @@
 // Templates over the values of a call.
 use call_facts::{CallFacts, Kind, Request, Target, Vars, WireReply};
-use gateway_vars::{Overrides, RequestRoots, ResponseRoots};
+use gateway_vars::{FailureRoots, Overrides, RequestRoots, ResponseRoots};
 use gw_base::{Bytes, Memory, Name, Seq, Shared, Text};
 use policy_core::Policy;
 use resource_tree::Found;
@@ -327,14 +327,68 @@ fn asked_of_refused(alloc: Global, template: &str) -> Result<Text, Memory> {
 }
 
 #[test]
-fn the_caller_and_the_refusal_have_values(rt: HostRuntime) -> Result<(), Fail> {
+fn the_caller_has_values_and_no_refusal_is_told_in_a_call(rt: HostRuntime) -> Result<(), Fail> {
     let made = asked_of_refused(
         rt.alloc(),
-        "$context.identity.apiKeyId $context.authorizer.principalId $context.authorizer.team$!context.authorizer.none $context.error.responseType $context.error.messageString",
+        "$context.identity.apiKeyId $context.authorizer.principalId $context.authorizer.team$!context.authorizer.none $!context.error.responseType$!context.error.messageString|",
     )?;
-    assert_eq!(rt;
-        made.as_str(),
-        "k1 u7 red THROTTLED \"Too \\\"Many\\\"\\n\\u0001/é\""
-    );
+    assert_eq!(rt; made.as_str(), "k1 u7 red |");
+    Ok(())
+}
+
+// The roots of a gateway response to a call whose moment is in range.
+fn failed<'a>(message: &'a str, facts: &'a CallFacts) -> Result<FailureRoots<'a>, Memory> {
+    if facts.at >= 4_102_444_800_000 {
+        return Err(Memory);
+    }
+    Ok(FailureRoots::new(Kind::QuotaExceeded, message, facts))
+}
+
+fn failed_text(alloc: Global, facts: &CallFacts, template: &str) -> Result<Text, Memory> {
+    let mut roots = failed("Limit \"Exceeded\"", facts)?;
+    printed(alloc, template, &mut roots)
+}
+
+// What a template of a gateway response prints; its call has a key, a policy, and another refusal in its facts.
+fn told_of_refused(alloc: Global, template: &str) -> Result<Text, Memory> {
+    let call = refused_call(alloc)?;
+    failed_text(alloc, &call.facts, template)
+}
+
+// Templates of gateway responses, and what they print.
+const TOLD: [(&str, &str); 7] = [
+    (
+        "$context.error.responseType $context.error.message $context.error.messageString$!context.error.none",
+        "QUOTA_EXCEEDED Limit \"Exceeded\" \"Limit \\\"Exceeded\\\"\"",
+    ),
+    (
+        "$!input.body$!input.json('$.a')$!input.params('x')$!input.params()|",
+        "|",
+    ),
+    (
+        "$!context.httpMethod$!context.path$!context.identity.userAgent|",
+        "|",
+    ),
+    (
+        "$context.apiId $context.stage $context.resourcePath $context.requestId $context.deploymentId",
+        "t v1 /p/{path} 0000000000000003 12",
+    ),
+    (
+        "$context.identity.sourceIp $context.identity.apiKeyId $context.authorizer.principalId",
+        "127.0.0.1 k1 u7",
+    ),
+    ("$stageVariables.env $util.urlEncode('a b')", "x a+b"),
+    (
+        "#set($context.responseOverride.status = 418)#set($context.error.message = 'no')$context.error.message",
+        "Limit \"Exceeded\"",
+    ),
+];
+
+#[test]
+fn a_gateway_response_sees_no_request_and_tells_its_refusal(rt: HostRuntime) -> Result<(), Fail> {
+    for (template, prints) in &TOLD {
+        let made = told_of_refused(rt.alloc(), template)?;
+        assert_eq!(rt; made.as_str(), *prints, "at {template}");
+    }
     Ok(())
 }

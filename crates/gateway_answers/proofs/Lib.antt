@@ -1,0 +1,2 @@
+-- the one cause of a gateway response
+pub mod Causes

@@ -1,0 +1,2 @@
+-- what a request to an API that is a document is answered
+pub mod Answers

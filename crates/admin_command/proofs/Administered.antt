@@ -22,9 +22,9 @@ use Rattle.admin_command.proofs.Lost.{as_many}
 fewer_lost : (start lost all faults : ℕ) → all ≡ lost → min (start + lost) (2 ^ 64 - 1) ≤ faults → min all (2 ^ 64 - 1) ≤ faults
 fewer_lost start lost all faults e h = omega (arith, e, h)
 
-pub over_store : (limits : Limits) (name : List ℕ) (first opened now : Shelves) (base : Base) (empty history : List Entry)
+over_base : (limits : Limits) (name : List ℕ) (first opened now : Shelves) (base : Base) (empty history : List Entry)
     → Opened limits name first opened base empty → IsGivenBack name base history opened now → OverStore limits name first now base history
-over_store limits name first opened now base empty history o b = record {
+over_base limits name first opened now base empty history o b = record {
   limited = o.limited;
   opening = o.opening;
   good = o.good;
@@ -39,6 +39,12 @@ over_store limits name first opened now base empty history o b = record {
     sessions = b.sessions ∙ ap (λ s. s.sessions) o.lent;
   };
 }
+
+-- the book kept its base
+pub over_store : (limits : Limits) (name : List ℕ) (first opened now : Shelves) (base kept : Base) (empty history : List Entry) → kept ≡ base
+    → Opened limits name first opened base empty → IsGivenBack name kept history opened now → OverStore limits name first now base history
+over_store limits name first opened now base kept empty history same o b =
+    over_base limits name first opened now base empty history o (subst (λ (x : Base). IsGivenBack name x history opened now) same b)
 
 module _ (limits : Limits) (name : List ℕ) (lines : List (List ℕ)) (first now : Shelves) (written after : Option (List ℕ)) where
   -- no book opened
@@ -61,14 +67,13 @@ module _ (limits : Limits) (name : List ℕ) (lines : List (List ℕ)) (first no
   unopened_memory why n (inr same) = inr (n.none, same)
 
   -- the lines were carried out, and the keeper given back
-  pub all_ends : (status : ℕ) (base opened : Base) (history : List Entry) → opened ≡ base → OverStore limits name first now opened history
+  pub all_ends : (status : ℕ) (base : Base) (history : List Entry) → OverStore limits name first now base history
       → (came : Came) × Administers base 1 [] lines came × (history ≡ came.history) × (status ≡ came.status) × Appends written after came.text
       → AdminEnds limits name lines first now written after status
-  all_ends status base opened history same over (came, administers, left, is, wrote) =
-      inl (opened, came, subst (λ (h : List Entry). OverStore limits name first now opened h) left over, subst (λ (b : Base). Administers b 1 [] lines came) (sym same) administers, is, wrote)
+  all_ends status base history over (came, administers, left, is, wrote) =
+      inl (base, came, subst (λ (h : List Entry). OverStore limits name first now base h) left over, administers, is, wrote)
 
-  pub cut_ends : (base opened : Base) (history : List Entry) → opened ≡ base → OverStore limits name first now opened history
+  pub cut_ends : (base : Base) (history : List Entry) → OverStore limits name first now base history
       → (front : List ℕ) × CarriedOut base 1 [] lines front history × Appends written after front
       → IsCutShort limits name lines first now written after
-  cut_ends base opened history same over (front, out, wrote) =
-      inl (opened, history, front, over, subst (λ (b : Base). CarriedOut b 1 [] lines front history) (sym same) out, wrote)
+  cut_ends base history over (front, out, wrote) = inl (base, history, front, over, out, wrote)

@@ -15,6 +15,13 @@ pub on_err_of : {T E : Type 0} (r : Result T E) (P : Type 0) → P → OnErr r P
 on_err_of (Ok v) P h = tt
 on_err_of (Err e) P h = h
 
+-- before anything of a line was written
+pub cut_before : (base : Base) (number : ℕ) (history after : List Entry) (line : List ℕ) (a : Option (List ℕ))
+    → (after ≡ history) ⊎ ((now : Turn) × IsTurn base number history line now × (after ≡ now.history))
+    → SaysFront a a (λ front. ((front ≡ []) × (after ≡ history)) ⊎ ((now : Turn) × IsTurn base number history line now × (after ≡ now.history) × IsFront front now.text))
+cut_before base number history after line a (inl same) = ([], inl (refl, same), Appends-nil a)
+cut_before base number history after line a (inr (now, turn, left)) = ([], inr (now, turn, left, (now.text, refl)), Appends-nil a)
+
 -- So much was written, and behind it comes what the lines print: together that is what all lines print.
 pub record Carrying (base : Base) (all : List (List ℕ)) (old now : Option (List ℕ)) (number : ℕ) (history : List Entry) (lines : List (List ℕ)) : Type 0 where
   pub so_far : List ℕ

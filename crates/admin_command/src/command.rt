@@ -10,9 +10,9 @@ ghost use Rattle.admin_command.specs.Ends.{AdminEnds, IsCutShort, WantsMemory};
 use crate::carrying::carry_out_lines;
 use crate::giving::give_back;
 use book_rules::{Entry, Limits};
-use gw_base::Sink;
+use gw_base::{Sink, WriteStop};
 use outside_core::Outside;
-use serve_command::{ServeStop, open_book, stop_of, tell_unopened};
+use serve_command::{ServeStop, open_book, tell_unopened};
 use std::alloc::Global;
 
 /// Carries out lines of commands over the tables of a store of an outside, and prints what they say: answers 0 at their end, 1 at a
@@ -52,6 +52,7 @@ pub fn administer<W: Sink, O: Outside<Entry>>(
     give_back(outside, store, book);
     match carried {
         Ok(status) => Ok(status),
-        Err(stop) => Err(stop_of(stop)),
+        Err(WriteStop::Failed) => Err(ServeStop::Output),
+        Err(WriteStop::Memory) => Err(ServeStop::Memory),
     }
 }

@@ -35,4 +35,4 @@ mod tell;
 pub use command::{Asked, serve};
 pub use open::{OpenStop, open_book};
 pub use stop::ServeStop;
-pub use tell::{stop_of, tell_unopened};
+pub use tell::tell_unopened;

@@ -15,8 +15,7 @@ use gate_walk::{LaneEnd, SessionFull};
 use gw_base::{Sink, Text, WriteStop, write_all};
 use std::alloc::Global;
 
-/// Why serving stops where a write was stopped.
-pub fn stop_of(stop: WriteStop) -> ServeStop
+fn stop_of(stop: WriteStop) -> ServeStop
     ensures { result ≡ stopped_by stop }
 {
     match stop {

@@ -26,7 +26,7 @@ IsFree None = Unit {0}
 IsFree (Some h) = bytes_eq h.0 cause ≡ false
 
 own : (v : List ℕ) → may_be_written (cause, v) ≡ false
-unfolding may_be_written, gateway_target, is_token, is_token_byte, is_own_header, same_name
+unfolding may_be_written gateway_target is_token is_token_byte is_own_header same_name
 own v = refl
 
 is_other : (x v : List ℕ) (b : Bool) → bytes_eq x cause ≡ b → may_be_written (x, v) ≡ true → bytes_eq x cause ≡ false

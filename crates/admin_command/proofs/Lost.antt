@@ -8,9 +8,11 @@ use Rattle.admin_command.specs.Administering.{lost_from, lost_in}
 more_lost : (place : ℕ) (entry : Entry) (entries : List Entry) (kept : Bool) → entry.kept ≡ kept → length (lost_from (place + 1) entries) ≡ not_kept entries
     → length (if kept then lost_from (place + 1) entries else place ∷ lost_from (place + 1) entries) ≡ not_kept (entry ∷ entries)
 more_lost place entry entries true e same =
-    same ∙ sym (sum_by-cons (λ (x : Entry). if x.kept then 0 else 1) entry entries ∙ ap (λ k. (if k then 0 else 1) + not_kept entries) e)
+    let more : not_kept (entry ∷ entries) ≡ 0 + not_kept entries = sum_by-cons (λ (x : Entry). if x.kept then 0 else 1) entry entries ∙ ap (λ k. (if k then 0 else 1) + not_kept entries) e in
+    omega (arith, same, more)
 more_lost place entry entries false e same =
-    ap suc same ∙ sym (sum_by-cons (λ (x : Entry). if x.kept then 0 else 1) entry entries ∙ ap (λ k. (if k then 0 else 1) + not_kept entries) e)
+    let more : not_kept (entry ∷ entries) ≡ 1 + not_kept entries = sum_by-cons (λ (x : Entry). if x.kept then 0 else 1) entry entries ∙ ap (λ k. (if k then 0 else 1) + not_kept entries) e in
+    omega (arith, same, more)
 
 -- there are as many as entries that are not kept
 pub as_many : (place : ℕ) (history : List Entry) → length (lost_from place history) ≡ not_kept history
@@ -35,11 +37,11 @@ at_least place [] = tt
 at_least place (entry ∷ entries) = more_at_least place entry.kept (lost_from (place + 1) entries) (at_least (place + 1) entries)
 
 -- a list that begins with a place below is none of those behind it
-head : List ℕ → ℕ
+abbrev head : List ℕ → ℕ
 head [] = 0
 head (x ∷ xs) = x
 
-tail : List ℕ → List ℕ
+abbrev tail : List ℕ → List ℕ
 tail [] = []
 tail (x ∷ xs) = xs
 

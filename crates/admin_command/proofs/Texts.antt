@@ -1,5 +1,5 @@
 -- A text API is refused where its template is.
-use Rattle.std.proofs.Common.{◌≡◌, ◌⊎◌, inl, inr, ℕ, List, codes, Result, Ok, Err, sym, ap}
+use Rattle.std.proofs.Common.{◌≡◌, ◌⊎◌, inl, inr, ℕ, List, codes, Result, Ok, Err, ap, ◌∙◌}
 use Rattle.vtl_grammar.specs.Templates.{read_of}
 use Rattle.vtl_grammar.specs.Tree.{Items}
 use Rattle.vtl_grammar.specs.declared.fault.TemplateFault.{TemplateFault}
@@ -24,7 +24,8 @@ module _ (moment : ℕ) (api template : List ℕ) where
       ap {B = Asked} (λ f. Err (Template f)) same
 
   -- the fault of its definition is the template's
-  pub fault_of : (e : ApiFault) (fault : TemplateFault) → (e.cause ≡ cause.Memory) ⊎ (stated (text template) ≡ Err e) → e.cause ≡ cause.Template fault → Err (Template fault) ≡ put_by moment api template (read_of template)
+  pub fault_of : (e : ApiFault) (fault told : TemplateFault) → (e.cause ≡ cause.Memory) ⊎ (stated (text template) ≡ Err e) → e.cause ≡ cause.Template fault → told ≡ fault
+      → Err (Template told) ≡ put_by moment api template (read_of template)
   unfolding text_parts template_of
-  fault_of e fault (inl memory) is = absurd cc
-  fault_of e fault (inr told) is = fault_by e fault (read_of template) told is
+  fault_of e fault told (inl memory) is same = absurd cc
+  fault_of e fault told (inr refused) is same = ap {B = Asked} (λ f. Err (Template f)) same ∙ fault_by e fault (read_of template) refused is

@@ -30,9 +30,9 @@ returns-in-Err-Failed-clause-output g c =
     let over = over_store c.args.limits c.args.store.now _ _ _ c.in-Ok.book.base c.carry_out_lines-carried.new.book.base c.in-Ok.book.history c.carry_out_lines-carried.new.book.history
     c.carry_out_lines-carried.ensures.base c.in-Ok.ensures.opened c.give_back.ensures in
     λ e. (
-      c.in-Err-Failed.ensures.cause.failed (cc c.in-Err-Failed.field-0-is),
+      c.in-Err-Failed.ensures-1.cause.failed (cc c.in-Err-Failed.field-0-is),
       cut_ends c.args.limits c.args.store.now (lines_of c.args.lines.now) _ _ (g.W.Sink.written c.args.output.now) (g.W.Sink.written c.carry_out_lines-carried.new.output) c.in-Ok.book.base
-          c.carry_out_lines-carried.new.book.history over c.in-Err-Failed.ensures.cut,
+          c.carry_out_lines-carried.new.book.history over c.in-Err-Failed.ensures-1.cut,
     )
 
 pub returns-in-Err-Memory-clause-memory : goal.returns-in-Err-Memory-clause-memory
@@ -40,4 +40,4 @@ returns-in-Err-Memory-clause-memory g c =
     let over = over_store c.args.limits c.args.store.now _ _ _ c.in-Ok.book.base c.carry_out_lines-carried.new.book.base c.in-Ok.book.history c.carry_out_lines-carried.new.book.history
     c.carry_out_lines-carried.ensures.base c.in-Ok.ensures.opened c.give_back.ensures in
     λ e. inl (cut_ends c.args.limits c.args.store.now (lines_of c.args.lines.now) _ _ (g.W.Sink.written c.args.output.now) (g.W.Sink.written c.carry_out_lines-carried.new.output) c.in-Ok.book.base
-    c.carry_out_lines-carried.new.book.history over c.in-Err-Memory.ensures.cut)
+    c.carry_out_lines-carried.new.book.history over c.in-Err-Memory.ensures-1.cut)

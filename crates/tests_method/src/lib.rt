@@ -1,5 +1,5 @@
 //! Tests of what a request is checked by, by public calls alone: where it goes, the token that it hands to an authorizer,
-//! and what it fails by.
+//! what it fails by, and what is answered then.
 //!
 //! ```text
 //! ("POST", "/x/s/a/%62/", "POST /a/b")       // a row: a verb, a target, and the method and the resource that it hits
@@ -12,11 +12,14 @@
 //! | `tokens.rt` | header fields, with the token that they have |
 //! | `validation.rt` | calls, with the message that tells what they fail by |
 //! | `media.rt` | content types, with their media type |
+//! | `answers.rt` | calls that fail, with the answer to the byte, where the API has rules and where it has none |
 //!
-//! Nothing is promised here: `method_checks` says what its calls answer, and this crate that they succeed, and that the
-//! answers are what was meant. The cases come from `docs/DEFINITION.md` and from the API Gateway Developer Guide.
+//! Nothing is promised here: `method_checks`, `gateway_answers` and `method_answers` say what their calls answer, and this
+//! crate that they succeed, and that the answers are what was meant. The cases come from `docs/DEFINITION.md` and from the API Gateway Developer Guide.
 #![tactic(auto)]
 
+#[cfg(test)]
+mod answers;
 #[cfg(test)]
 mod calls;
 #[cfg(test)]

@@ -6,6 +6,7 @@
 //! | Module | Shows |
 //! |---|---|
 //! | `connections` | tables of bytes with the answers that are written, how the connection ends and the entries, at 1 and 4,096 bytes a read |
+//! | `documents` | an API that is a document: what is answered to requests that fail by its routes, its checks or the size of their body, by its rules |
 //! | `failing_calls` | each read and each write failing once |
 //! | `limits` | sessions that get full at an Enter or a Leave |
 //! | `closing` | a session that is closing |
@@ -18,6 +19,8 @@
 mod closing;
 #[cfg(test)]
 mod connections;
+#[cfg(test)]
+mod documents;
 #[cfg(test)]
 mod failing_calls;
 #[cfg(test)]

@@ -60,7 +60,7 @@ fn text(alloc: Global, from: &str) -> Result<Text, Memory> {
     Ok(Text::of(String::from_str(alloc, from)?))
 }
 
-fn definition(alloc: Global) -> Result<Shared<Api>, Memory> {
+fn hello(alloc: Global) -> Result<Shared<Api>, Memory> {
     match Api::text(alloc, "Hi $input.body!") {
         Ok(api) => Ok(Shared::new(alloc, api)?),
         Err(_) => Err(Memory),
@@ -71,10 +71,10 @@ fn ask(command: Command) -> Event {
     Event::Admin { moment: 0, command }
 }
 
-fn put(alloc: Global) -> Result<Event, Memory> {
+fn put(alloc: Global, definition: Shared<Api>) -> Result<Event, Memory> {
     Ok(ask(Command::PutApi {
         api: text(alloc, "hello")?,
-        definition: definition(alloc)?,
+        definition,
     }))
 }
 
@@ -98,8 +98,17 @@ fn stage(alloc: Global) -> Result<Event, Memory> {
 
 /// The commands of a session: three, of 32 bytes in all, or four, where the session is closing.
 pub(crate) fn commands(alloc: Global, shuts: bool) -> Result<Vec<Event>, Memory> {
+    commands_over(alloc, hello(alloc)?, shuts)
+}
+
+// The same, where the API has this definition.
+fn commands_over(
+    alloc: Global,
+    definition: Shared<Api>,
+    shuts: bool,
+) -> Result<Vec<Event>, Memory> {
     let mut commands = Vec::new(alloc);
-    commands.push(put(alloc)?)?;
+    commands.push(put(alloc, definition)?)?;
     commands.push(deploy(alloc)?)?;
     commands.push(stage(alloc)?)?;
     if shuts {
@@ -193,7 +202,30 @@ pub(crate) fn serve<R: Wait, C: Conn>(
     plan: &Plan,
     conn: &mut C,
 ) -> Result<Served, Fail> {
-    let commands = commands(alloc, plan.shuts)?;
+    serve_by(rt, alloc, plan, commands(alloc, plan.shuts)?, conn)
+}
+
+/// The same, where the API is this document.
+pub(crate) fn serve_document<R: Wait, C: Conn>(
+    rt: &R,
+    alloc: Global,
+    document: &str,
+    conn: &mut C,
+) -> Result<Served, Fail> {
+    let Ok(api) = Api::read(alloc, document.as_bytes()) else {
+        return Err(Fail::from("the document is refused"));
+    };
+    let commands = commands_over(alloc, Shared::new(alloc, api)?, false)?;
+    serve_by(rt, alloc, &OPEN, commands, conn)
+}
+
+fn serve_by<R: Wait, C: Conn>(
+    rt: &R,
+    alloc: Global,
+    plan: &Plan,
+    commands: Vec<Event>,
+    conn: &mut C,
+) -> Result<Served, Fail> {
     let mut means = means(alloc);
     let (desk, seat) = start(alloc, plan.limits, 1)?;
     let seat = take_all(rt, alloc, &desk, seat, commands);

@@ -1,5 +1,5 @@
 -- The words in the table are those that ask for a command, but for the numbers.
-use Rattle.std.proofs.Common.{◌≡◌, ◌⊎◌, inl, inr, ℕ, ◌==◌, nat_le, nat_lt, ◌^◌, Bool, true, false, cond, not, ◌&&◌, ◌||◌, length, List, [], ◌∷◌, codes, bytes_eq, Option, Some, None, refl, ap, sym, subst, ◌∙◌, arith}
+use Rattle.std.proofs.Common.{◌≡◌, ℕ, ◌==◌, nat_le, nat_lt, ◌^◌, Bool, true, false, cond, not, ◌&&◌, ◌||◌, length, List, [], ◌∷◌, codes, bytes_eq, Option, Some, None, refl, ap, sym, subst, ◌∙◌}
 use Rattle.std.specs.List.{list_all}
 use Rattle.std.specs.Option.{option_and_then, option_map, option_or}
 use Rattle.std.proofs.lemmas.Bool.{and_parts, eqb-true}
@@ -11,7 +11,7 @@ use Rattle.command_words.specs.Grammar.{gateway}
 use Rattle.command_words.specs.Reading.{read_in}
 use Rattle.command_words.specs.Table.{is_row}
 use Rattle.command_words.specs.declared.commands.Command.{Command}
-use Rattle.command_words.specs.declared.commands.Command.TheVariants.{Play, Render, Check, Serve, Admin}
+use Rattle.command_words.specs.declared.commands.Command.TheVariants.{Check, Admin}
 use Rattle.command_words.proofs.Rows.{admin_read, admin_taken, check_read, check_taken, play_read, play_taken, render_read, render_taken, serve_read, serve_taken}
 
 is : (x y : Text) → bytes_eq x y ≡ true → x ≡ y

@@ -1,12 +1,12 @@
 -- What `clap` reads in the words of each row: no word that is an argument is looked into.
-use Rattle.std.proofs.Common.{◌≡◌, ℕ, ◌==◌, true, false, List, [], ◌∷◌, codes, Some, refl}
+use Rattle.std.proofs.Common.{◌≡◌, ℕ, ◌==◌, true, false, [], ◌∷◌, codes, Some, refl}
 use Rattle.std.specs.Option.{option_map}
 use Rattle.clap.specs.Words.{Text, subcommand_of, takes}
 use Rattle.clap.proofs.OnLiterals.{clap_on_literals}
 use Rattle.command_words.specs.Commands.{asked_of, number_to, serve_of}
 use Rattle.command_words.specs.Grammar.{gateway}
 use Rattle.command_words.specs.Reading.{read_in}
-use Rattle.command_words.specs.declared.commands.Command.TheVariants.{Play, Render, Check, Serve, Admin}
+use Rattle.command_words.specs.declared.commands.Command.TheVariants.{Play, Render, Check, Admin}
 
 pub play_taken : takes gateway (codes "play" ∷ []) ≡ true
 unfolding clap_on_literals

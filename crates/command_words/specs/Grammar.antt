@@ -1,5 +1,5 @@
 -- The table of commands, as `clap` knows it: a command with a subcommand for each row.
-use Rattle.std.specs.Prelude.{ℕ, true, List, [], ◌∷◌, codes, map}
+use Rattle.std.specs.Prelude.{true, List, [], ◌∷◌, codes, map}
 use Rattle.std.specs.Borrow.{Bor}
 use Rattle.clap.specs.Words.{App, Rule, Shape, Text, new_app, new_rule, with_rule, with_subcommand}
 use Rattle.clap.specs.Simple.{new_shape}

@@ -1,7 +1,7 @@
 // The words, read.
-ghost use Rattle.std.specs.Prelude.{◌≡◌, IfOk, true};
+ghost use Rattle.std.specs.Prelude.{◌≡◌, IfOk, IfSome, true};
 ghost use Rattle.clap.specs.Words.{found_of, rows_of, subcommand_rows_of};
-ghost use Rattle.command_words.specs.Commands.{command_of};
+ghost use Rattle.command_words.specs.Commands.{command_of, IsWithin};
 ghost use Rattle.command_words.specs.Grammar.{texts_of};
 ghost use Rattle.command_words.specs.Reading.{command_by as command_by_name, read_in, serve_by as serve_by_rows, word_of as word_of_rows};
 ghost use Rattle.command_words.specs.Table.{is_row as is_row_of};
@@ -99,7 +99,8 @@ fn read_row(alloc: Global, words: &[Text]) -> Result<Option<Command>, Memory>
 
 /// What the words behind the program's name ask for.
 pub fn read_words(alloc: Global, words: &[Text]) -> Result<Option<Command>, Memory>
-    ensures { IfOk result (λ command. command ≡ command_of words.now) }
+    ensures command { IfOk result (λ command. command ≡ command_of words.now) }
+    ensures within { IfOk result (λ command. IfSome command IsWithin) }
 {
     if is_row(words) {
         read_row(alloc, words)

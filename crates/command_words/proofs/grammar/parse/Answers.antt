@@ -1,7 +1,7 @@
 use Rattle.std.proofs.Common.{ap₂, refl, ◌∙◌}
 use Rattle.std.proofs.lemmas.Result.{IfErr-weaker}
 use Rattle.clap.specs.Words.{takes}
-use Rattle.command_words.proofs.Asked.{rows_are_read, others_ask_nothing}
+use Rattle.command_words.proofs.Asked.{rows_are_read}
 use Rattle.command_words.specs.Grammar.{texts_of}
 use Rattle.command_words.proofs.grammar.parse.Goals as goal
 

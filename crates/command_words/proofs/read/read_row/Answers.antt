@@ -1,4 +1,4 @@
-use Rattle.std.proofs.Common.{ap, subst, ◌≡◌, true, sym, ◌∙◌}
+use Rattle.std.proofs.Common.{ap, ◌∙◌}
 use Rattle.std.proofs.lemmas.Result.{IfOk-weaker}
 use Rattle.clap.specs.Words.{subcommand_of}
 use Rattle.command_words.specs.Grammar.{gateway, texts_of}

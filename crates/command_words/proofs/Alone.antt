@@ -1,0 +1,157 @@
+-- A command has its words alone.
+use Rattle.std.proofs.Common.{◌≡◌, ◌≤◌, ℕ, nat_le, Bool, true, false, cond, ◌&&◌, List, [], ◌∷◌, codes, bytes_eq, Option, Some, None, IfSome, refl, ap, subst, leb-true}
+use Rattle.std.specs.Option.{option_and_then, option_map, option_or}
+use Rattle.std.proofs.lemmas.Bool.{and_parts}
+use Rattle.std.proofs.lemmas.Slice.Eq.{bytes_eq-Decides}
+use Rattle.record_fields.specs.Numbers.{number_of}
+use Rattle.command_words.specs.Commands.{CommandsHaveTheirWords, IsAskedBy, IsWithin, admin_store, asked_of, check_name, command_of, in_range, is_argument, is_play, number_to, play_of, render_names, render_of, serve_asked, serve_of}
+use Rattle.command_words.specs.declared.commands.Command.{Command}
+use Rattle.command_words.specs.declared.commands.Command.TheVariants.{Play, Render, Check, Serve, Admin}
+
+some_same : {X : Type 0} {x y : X} → Some x ≡ Some y → x ≡ y
+some_same e = cc
+
+-- what the words of one row ask for
+asked_serve : (words : List (List ℕ)) (command : Command) (o : Option (List ℕ × ℕ × ℕ)) → serve_asked words ≡ o
+    → option_or (option_map serve_of o) None ≡ Some command → IsAskedBy words command
+asked_serve words command None e f = absurd cc
+asked_serve words command (Some (store, port, lanes)) e f = subst (IsAskedBy words) (some_same f) e
+
+asked : (words : List (List ℕ)) (command : Command) → command_of words ≡ Some command → IsAskedBy words command
+unfolding command_of
+asked [] command e = absurd cc
+asked (name ∷ []) command e = by (bytes_eq name (codes "play")) refl e
+  where
+    by : (v : Bool) → bytes_eq name (codes "play") ≡ v → option_or (play_of v) None ≡ Some command → IsAskedBy (name ∷ []) command
+    by true is f = subst (IsAskedBy (name ∷ [])) (some_same f) is
+    by false is f = absurd cc
+asked (name ∷ only ∷ []) command e = by (bytes_eq name (codes "check")) refl (bytes_eq name (codes "admin")) refl (is_argument only) refl e
+  where
+    by : (v : Bool) → bytes_eq name (codes "check") ≡ v → (w : Bool) → bytes_eq name (codes "admin") ≡ w → (x : Bool) → is_argument only ≡ x
+        → option_or (option_map Check (cond (v && x) (Some only) None)) (option_map Admin (cond (w && x) (Some only) None)) ≡ Some command → IsAskedBy (name ∷ only ∷ []) command
+    by true a w b true d f = subst (IsAskedBy (name ∷ only ∷ [])) (some_same f) (rw (a, d) refl)
+    by false a true b true d f = subst (IsAskedBy (name ∷ only ∷ [])) (some_same f) (rw (b, d) refl)
+    by false a false b true d f = absurd cc
+    by true a true b false d f = absurd cc
+    by true a false b false d f = absurd cc
+    by false a true b false d f = absurd cc
+    by false a false b false d f = absurd cc
+asked (name ∷ template ∷ body ∷ []) command e = by (bytes_eq name (codes "render") && (is_argument template && is_argument body)) refl e
+  where
+    by : (v : Bool) → (bytes_eq name (codes "render") && (is_argument template && is_argument body)) ≡ v
+        → option_or (option_map render_of (cond v (Some (template, body)) None)) None ≡ Some command → IsAskedBy (name ∷ template ∷ body ∷ []) command
+    by true is f = subst (IsAskedBy (name ∷ template ∷ body ∷ [])) (some_same f) (rw is refl)
+    by false is f = absurd cc
+asked (name ∷ store ∷ port ∷ lanes ∷ []) command e =
+    asked_serve (name ∷ store ∷ port ∷ lanes ∷ []) command (serve_asked (name ∷ store ∷ port ∷ lanes ∷ [])) refl e
+asked (name ∷ store ∷ port ∷ lanes ∷ more ∷ words) command e = absurd cc
+
+-- a name is one
+apart : (name : List ℕ) → (bytes_eq name (codes "check") && bytes_eq name (codes "admin")) ≡ false
+apart name = by (bytes_eq name (codes "check")) refl
+  where
+    by : (v : Bool) → bytes_eq name (codes "check") ≡ v → (v && bytes_eq name (codes "admin")) ≡ false
+    by true e = ap (λ n. bytes_eq n (codes "admin")) ((bytes_eq-Decides name (codes "check")).0 e)
+    by false e = refl
+
+-- and are asked for by them
+play_asks : (words : List (List ℕ)) → is_play words ≡ true → command_of words ≡ Some Play
+unfolding command_of
+play_asks [] e = absurd cc
+play_asks (name ∷ []) e = rw e refl
+play_asks (name ∷ other ∷ words) e = absurd cc
+
+render_asks : (words : List (List ℕ)) (template body : List ℕ) → render_names words ≡ Some (template, body) → command_of words ≡ Some (Render template body)
+unfolding command_of
+render_asks [] template body e = absurd cc
+render_asks (name ∷ []) template body e = absurd cc
+render_asks (name ∷ a ∷ []) template body e = absurd cc
+render_asks (name ∷ a ∷ b ∷ []) template body e = ap (λ o. option_or (option_map render_of o) None) e
+render_asks (name ∷ a ∷ b ∷ other ∷ words) template body e = absurd cc
+
+check_asks : (words : List (List ℕ)) (file : List ℕ) → check_name words ≡ Some file → command_of words ≡ Some (Check file)
+unfolding command_of
+check_asks [] file e = absurd cc
+check_asks (name ∷ []) file e = absurd cc
+check_asks (name ∷ a ∷ []) file e = ap (λ o. option_or (option_map Check o) (option_map Admin (admin_store (name ∷ a ∷ [])))) e
+check_asks (name ∷ a ∷ other ∷ words) file e = absurd cc
+
+serve_asks : (words : List (List ℕ)) (store : List ℕ) (port lanes : ℕ) → serve_asked words ≡ Some (store, port, lanes) → command_of words ≡ Some (Serve store port lanes)
+unfolding command_of
+serve_asks [] store port lanes e = absurd cc
+serve_asks (name ∷ []) store port lanes e = absurd cc
+serve_asks (name ∷ a ∷ []) store port lanes e = absurd cc
+serve_asks (name ∷ a ∷ b ∷ []) store port lanes e = absurd cc
+serve_asks (name ∷ a ∷ b ∷ c ∷ []) store port lanes e = ap (λ o. option_or (option_map serve_of o) None) e
+serve_asks (name ∷ a ∷ b ∷ c ∷ other ∷ words) store port lanes e = absurd cc
+
+admin_asks : (words : List (List ℕ)) (store : List ℕ) → admin_store words ≡ Some store → command_of words ≡ Some (Admin store)
+unfolding command_of
+admin_asks [] store e = absurd cc
+admin_asks (name ∷ []) store e = absurd cc
+admin_asks (name ∷ a ∷ []) store e = by (bytes_eq name (codes "check")) (bytes_eq name (codes "admin")) (is_argument a) (apart name) e
+  where
+    by : (v w x : Bool) → (v && w) ≡ false → cond (w && x) (Some a) None ≡ Some store
+        → option_or (option_map Check (cond (v && x) (Some a) None)) (option_map Admin (cond (w && x) (Some a) None)) ≡ Some (Admin store)
+    by true true x n f = absurd cc
+    by true false x n f = absurd cc
+    by false w x n f = ap (option_map Admin) f
+admin_asks (name ∷ a ∷ other ∷ words) store e = absurd cc
+
+asks : (words : List (List ℕ)) (command : Command) → IsAskedBy words command → command_of words ≡ Some command
+asks words Play e = play_asks words e
+asks words (Render template body) e = render_asks words template body e
+asks words (Check name) e = check_asks words name e
+asks words (Serve store port lanes) e = serve_asks words store port lanes e
+asks words (Admin store) e = admin_asks words store e
+
+pub commands_have_their_words : CommandsHaveTheirWords
+commands_have_their_words words command = (asked words command, asks words command)
+
+-- the numbers are within their bounds
+number_within : (most : ℕ) (o : Option ℕ) (n : ℕ) → option_and_then (in_range most) o ≡ Some n → (1 ≤ n) × (n ≤ most)
+number_within most None n e = absurd cc
+number_within most (Some m) n e = by (nat_le 1 m && nat_le m most) refl e
+  where
+    by : (v : Bool) → (nat_le 1 m && nat_le m most) ≡ v → cond v (Some m) None ≡ Some n → (1 ≤ n) × (n ≤ most)
+    by true is f =
+        let parts = and_parts (nat_le 1 m) (nat_le m most) is in
+        subst (λ k. (1 ≤ k) × (k ≤ most)) (some_same f) (leb-true 1 m parts.0, leb-true m most parts.1)
+    by false is f = absurd cc
+
+asked_within : (a : List ℕ) (p l : Option ℕ) (store : List ℕ) (port lanes : ℕ) → asked_of a p l ≡ Some (store, port, lanes) → (p ≡ Some port) × (l ≡ Some lanes)
+asked_within a None l store port lanes e = absurd cc
+asked_within a (Some p) None store port lanes e = absurd cc
+asked_within a (Some p) (Some l) store port lanes e =
+    let same : ◌≡◌ {A = List ℕ × ℕ × ℕ} (a, p, l) (store, port, lanes) = some_same e in
+    (ap (λ (x : List ℕ × ℕ × ℕ). Some x.1) same, ap (λ (x : List ℕ × ℕ × ℕ). Some x.2) same)
+
+serve_within : (words : List (List ℕ)) (store : List ℕ) (port lanes : ℕ) → serve_asked words ≡ Some (store, port, lanes) → (1 ≤ port) × (port ≤ 65535) × (1 ≤ lanes) × (lanes ≤ 8)
+serve_within [] store port lanes e = absurd cc
+serve_within (name ∷ []) store port lanes e = absurd cc
+serve_within (name ∷ a ∷ []) store port lanes e = absurd cc
+serve_within (name ∷ a ∷ b ∷ []) store port lanes e = absurd cc
+serve_within (name ∷ a ∷ b ∷ c ∷ []) store port lanes e = by (bytes_eq name (codes "serve") && is_argument a) e
+  where
+    by : (v : Bool) → cond v (asked_of a (number_to 65535 b) (number_to 8 c)) None ≡ Some (store, port, lanes) → (1 ≤ port) × (port ≤ 65535) × (1 ≤ lanes) × (lanes ≤ 8)
+    by true f =
+        let both = asked_within a (number_to 65535 b) (number_to 8 c) store port lanes f in
+        let first = number_within 65535 (number_of 64 b) port both.0 in
+        let second = number_within 8 (number_of 64 c) lanes both.1 in
+        (first.0, first.1, second.0, second.1)
+    by false f = absurd cc
+serve_within (name ∷ a ∷ b ∷ c ∷ other ∷ words) store port lanes e = absurd cc
+
+one_within : (words : List (List ℕ)) (command : Command) → IsAskedBy words command → IsWithin command
+one_within words Play e = tt
+one_within words (Render template body) e = tt
+one_within words (Check name) e = tt
+one_within words (Serve store port lanes) e = serve_within words store port lanes e
+one_within words (Admin store) e = tt
+
+pub all_within : (words : List (List ℕ)) → IfSome (command_of words) IsWithin
+all_within words = by (command_of words) refl
+  where
+    by : (o : Option Command) → command_of words ≡ o → IfSome o IsWithin
+    by None e = tt
+    by (Some command) e = one_within words command (asked words command e)

@@ -19,8 +19,7 @@ use Rattle.gateway_answers.specs.Answers.{failed_made}
 use Rattle.gateway_answers.specs.Causes.{causes_in}
 use Rattle.method_answers.specs.Answers.{method_made, routed_made, checked_made}
 use Rattle.method_checks.specs.Routing.{route_of}
-use Rattle.method_checks.specs.Validating.{failed_check}
-use Rattle.method_checks.specs.declared.routes.Route.{Route}
+use Rattle.method_checks.specs.declared.routes.Route.{Route as MethodRoute}
 use Rattle.method_checks.specs.declared.routes.Route.TheVariants.{TextApi, Hit, Missing}
 use Rattle.api_model.specs.Definition.{Definition}
 use Rattle.call_facts.specs.declared.facts.CallFacts.{CallFacts}
@@ -58,7 +57,7 @@ of_check : (d : Definition) (f : CallFacts) (failed : Option (Kind × List ℕ))
 of_check d f (Some failed) = of_failure _ _ _ _
 of_check d f None = of_failure _ _ _ _
 
-of_found : (d : Definition) (r : Request) (target : Target) (f : CallFacts) (route : Route) → Names (routed_made d r target f route)
+of_found : (d : Definition) (r : Request) (target : Target) (f : CallFacts) (route : MethodRoute) → Names (routed_made d r target f route)
 of_found d r target f TextApi = of_failure _ _ _ _
 of_found d r target f (Hit found method) = of_check _ _ _
 of_found d r target f Missing = of_failure _ _ _ _

@@ -27,10 +27,11 @@ returns-in-Ok-carried-clause-ends g c =
 
 pub returns-in-Err-Failed-clause-output : goal.returns-in-Err-Failed-clause-output
 returns-in-Err-Failed-clause-output g c =
+    let rose = c.in-Err-Failed.ensures-1.cause.failed (cc c.in-Err-Failed.field-0-is) in
     let over = over_store c.args.limits c.args.store.now _ _ _ c.in-Ok.book.base c.carry_out_lines-carried.new.book.base c.in-Ok.book.history c.carry_out_lines-carried.new.book.history
     c.carry_out_lines-carried.ensures.base c.in-Ok.ensures.opened c.give_back.ensures in
     λ e. (
-      c.in-Err-Failed.ensures-1.cause.failed (cc c.in-Err-Failed.field-0-is),
+      rose,
       cut_ends c.args.limits c.args.store.now (lines_of c.args.lines.now) _ _ (g.W.Sink.written c.args.output.now) (g.W.Sink.written c.carry_out_lines-carried.new.output) c.in-Ok.book.base
           c.carry_out_lines-carried.new.book.history over c.in-Err-Failed.ensures-1.cut,
     )

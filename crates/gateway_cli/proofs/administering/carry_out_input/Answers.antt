@@ -10,11 +10,10 @@ returns-in-Ok-clause-ends g c =
     (λ status ends. of_same (g.I.Source.left c.args.input.now) c.deref.result.now c.in-Ok.lines.items (λ lines. Administered c.args.store.now lines _ _ _ _ status) same c.in-Ok.ensures.whole ends)
     c.carry_out.ensures.ends
 
-pub returns-in-Ok-clause-output : goal.returns-in-Ok-clause-output
-returns-in-Ok-clause-output g c =
+pub returns-in-Ok-clause-cut : goal.returns-in-Ok-clause-cut
+returns-in-Ok-clause-cut g c =
     let same : c.deref.result.now ≡ c.in-Ok.lines.items = search rules in
-    λ e. let told = c.carry_out.ensures.output e in
-    (c.read_all.ensures.kept (cc c.in-Ok.is), told.0, of_same (g.I.Source.left c.args.input.now) c.deref.result.now c.in-Ok.lines.items (λ lines. AdminCut c.args.store.now lines _ _ _ _) same c.in-Ok.ensures.whole told.1)
+    λ e. of_same (g.I.Source.left c.args.input.now) c.deref.result.now c.in-Ok.lines.items (λ lines. AdminCut c.args.store.now lines _ _ _ _) same c.in-Ok.ensures.whole (c.carry_out.ensures.output e).1
 
 pub returns-in-Ok-clause-memory : goal.returns-in-Ok-clause-memory
 returns-in-Ok-clause-memory g c =
@@ -26,13 +25,9 @@ returns-in-Err-TooLong-clause-ends g c =
     if_ok_of_longer 67108864 (g.I.Source.left c.args.input.now) c.refuse.result (λ lines status. Administered c.args.store.now lines _ _ _ _ status)
     (c.in-Err-TooLong.ensures.too_long (cc c.in-Err-TooLong.field-0-is)) c.refuse.ensures.ends
 
-pub returns-in-Err-TooLong-clause-output : goal.returns-in-Err-TooLong-clause-output
-returns-in-Err-TooLong-clause-output g c =
-    λ e. (
-      c.read_all.ensures.kept (cc c.in-Err-TooLong.field-0-is),
-      c.refuse.ensures.output e,
-      of_longer 67108864 (g.I.Source.left c.args.input.now) (λ lines. AdminCut c.args.store.now lines _ _ _ _) (c.in-Err-TooLong.ensures.too_long (cc c.in-Err-TooLong.field-0-is)) c.refuse.ensures.cut,
-    )
+pub returns-in-Err-TooLong-clause-cut : goal.returns-in-Err-TooLong-clause-cut
+returns-in-Err-TooLong-clause-cut g c =
+    λ e. of_longer 67108864 (g.I.Source.left c.args.input.now) (λ lines. AdminCut c.args.store.now lines _ _ _ _) (c.in-Err-TooLong.ensures.too_long (cc c.in-Err-TooLong.field-0-is)) c.refuse.ensures.cut
 
 pub returns-in-Err-TooLong-clause-memory : goal.returns-in-Err-TooLong-clause-memory
 returns-in-Err-TooLong-clause-memory g c =

@@ -7,11 +7,11 @@ returns-in-Some-clause-serves g c = if_some_of _ _ _ c.in-Some.ensures.asked c.s
 pub returns-in-Some-clause-serve_fault : goal.returns-in-Some-clause-serve_fault
 returns-in-Some-clause-serve_fault g c = if_some_of _ _ _ c.in-Some.ensures.asked c.serve.ensures.fault
 
-pub returns-in-Some-store-clause-administers : goal.returns-in-Some-store-clause-administers
-returns-in-Some-store-clause-administers g c = if_some_of _ _ _ c.in-Some-store.ensures c.admin.ensures.ends
+pub returns-in-Some-admin_store-clause-administers : goal.returns-in-Some-admin_store-clause-administers
+returns-in-Some-admin_store-clause-administers g c = if_some_of _ _ _ c.in-Some-admin_store.ensures c.admin.ensures.ends
 
-pub returns-in-Some-store-clause-admin_memory : goal.returns-in-Some-store-clause-admin_memory
-returns-in-Some-store-clause-admin_memory g c = if_some_of _ _ _ c.in-Some-store.ensures c.admin.ensures.memory
+pub returns-in-Some-admin_store-clause-admin_memory : goal.returns-in-Some-admin_store-clause-admin_memory
+returns-in-Some-admin_store-clause-admin_memory g c = if_some_of _ _ _ c.in-Some-admin_store.ensures c.admin.ensures.memory
 
-pub returns-in-Some-store-clause-admin_fault : goal.returns-in-Some-store-clause-admin_fault
-returns-in-Some-store-clause-admin_fault g c = if_some_of _ _ _ c.in-Some-store.ensures c.admin.ensures.fault
+pub returns-in-Some-admin_store-clause-admin_fault : goal.returns-in-Some-admin_store-clause-admin_fault
+returns-in-Some-admin_store-clause-admin_fault g c = if_some_of _ _ _ c.in-Some-admin_store.ensures c.admin.ensures.fault

@@ -1,4 +1,4 @@
-use Rattle.std.proofs.Common.{inl, refl}
+use Rattle.std.proofs.Common.{Err, inl, ap}
 use Rattle.play_script.specs.Coding.{lines_of}
 use Rattle.admin_command.proofs.Administered.{all_ends, cut_ends, over_store, unopened_ends, unopened_memory, unopened_output}
 use Rattle.admin_command.proofs.command.administer.Goals as goal
@@ -27,7 +27,7 @@ returns-in-Ok-carried-clause-ends g c =
 
 pub returns-in-Err-Failed-clause-output : goal.returns-in-Err-Failed-clause-output
 returns-in-Err-Failed-clause-output g c =
-    let rose = c.in-Err-Failed.ensures-1.cause.failed (cc c.in-Err-Failed.field-0-is) in
+    let rose = c.in-Err-Failed.ensures-1.cause.failed (ap Err c.in-Err-Failed.field-0-is) in
     let over = over_store c.args.limits c.args.store.now _ _ _ c.in-Ok.book.base c.carry_out_lines-carried.new.book.base c.in-Ok.book.history c.carry_out_lines-carried.new.book.history
     c.carry_out_lines-carried.ensures.base c.in-Ok.ensures.opened c.give_back.ensures in
     λ e. (

@@ -30,7 +30,7 @@ const ROWS: [(&[&[u8]], &[&[u8]]); 5] = [
     (
         &[b"POST /hello/v1/orders HTTP/1.1\r\nhost: a\r\ncontent-length: 1\r\n\r\n{"],
         &[
-            b"HTTP/1.1 400 Bad Request\r\ncontent-type: application/json\r\nx-gateway-cause: BAD_REQUEST_PARAMETERS\r\ncontent-length: 60\r\n\r\n{\"message\":\"Missing required request parameters: [shop]\"}",
+            b"HTTP/1.1 400 Bad Request\r\ncontent-type: application/json\r\nx-gateway-cause: BAD_REQUEST_PARAMETERS\r\ncontent-length: 57\r\n\r\n{\"message\":\"Missing required request parameters: [shop]\"}",
         ],
     ),
     (

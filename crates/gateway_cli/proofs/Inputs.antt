@@ -52,3 +52,8 @@ of_same outside x y P same told p = (y, told, subst P same p)
 -- what holds of a value that is there
 pub if_some_of : {A : Type 0} (found : Option A) (x : A) (P : A → Type 0) → Some x ≡ found → P x → IfSome found P
 if_some_of found x P is holds = subst (λ o. IfSome o P) is holds
+
+-- what holds of every value
+pub if_some_each : {A : Type 0} (found : Option A) (P : A → Type 0) → ((x : A) → P x) → IfSome found P
+if_some_each None P f = tt
+if_some_each (Some x) P f = f x

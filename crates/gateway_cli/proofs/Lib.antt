@@ -1,6 +1,6 @@
 pub mod Asked
 pub mod Inputs
-pub mod ByWords
+pub mod ByCommand
 pub mod Scripts
 pub mod Admins
 mod OneOutcome

@@ -1,4 +1,4 @@
--- The words, the input and the files come to one outcome, and what is written where the program is cut short is a front of it.
+-- What is asked for, the input and the files come to one outcome, and what is written where the program is cut short is a front of it.
 use Rattle.std.proofs.Common.{◌≡◌, inl, inr, ℕ, ◌+◌, Bool, true, false, List, [], ◌∷◌, ◌++◌, Option, Some, None, IsSome, Result, Ok, Err, refl, sym, ap, ◌∙◌, subst, append_assoc}
 use Rattle.book_rules.specs.declared.events.Entry.{Entry}
 use Rattle.book_rules.specs.History.{Base}
@@ -8,7 +8,8 @@ use Rattle.http_framing.specs.declared.fault.EdgeFault.{EdgeFault}
 use Rattle.gate_walk.specs.Told.{ComesToOneThing}
 use Rattle.play_script.specs.Calls.{IsWhole, IsOther, IsNoWhole, IsOutcome, IsNoOutcome, AreOutcomes, BreaksOutcomes}
 use Rattle.play_script.specs.Coding.{is_passed_over}
-use Rattle.gateway_cli.specs.Commands.{is_play, OutcomeBy, Outcome, OutcomeFrontBy, OutcomeFront, HasOneOutcome, FrontsAreOfTheOutcome}
+use Rattle.command_words.specs.declared.commands.Command.TheVariants.{Play}
+use Rattle.gateway_cli.specs.Commands.{Outcome, OutcomeFront, HasOneOutcome, FrontsAreOfTheOutcome}
 use Rattle.outside_core.specs.Files.{Files}
 use Rattle.play_script.specs.Play.{Turn, Output, before, talked, IsTalk, Does, DoesOrNot, PassesOrDoes, IsTurn, GoesOn, Plays, IsFront, GoesOnInFront, PlaysFront, PlayedBy, Played, OpenedFrontBy, PlayedFrontBy, PlayedFront, opening_of, session_limits}
 use Rattle.play_session.specs.Sessions.{base_of}
@@ -112,7 +113,7 @@ module _ (law : ComesToOneThing) (base : Base) (told : IsSome base.start.planned
       (λ more rest holds plays. plays_front_once (number + 1) now.history lines more rest holds plays)
       (subst (λ (t : Turn). GoesOn t.ends t.text (Plays base (number + 1) t.history lines) a) same went) behind
 
--- scripts and words
+-- scripts and commands
 
 played_by_once : ComesToOneThing → (long : Bool) (script : List ℕ) (a b : Output) → PlayedBy long script a → PlayedBy long script b → a ≡ b
 played_by_once law true script a b x y = x ∙ sym y
@@ -127,21 +128,12 @@ played_front_by law false script front a plays f =
     plays_front_once law (base_of session_limits opening.fails) refl opening.number [] opening.lines front a
     (subst (λ named. OpenedFrontBy named session_limits opening front) plays.0 f) plays.1
 
-outcome_by_once : ComesToOneThing → (play : Bool) (words : List (List ℕ)) (input : List ℕ) (files : Files) (a b : Output) → OutcomeBy play words input files a → OutcomeBy play words input files b → a ≡ b
-unfolding Played
-outcome_by_once law true words input files a b x y = played_by_once law _ input a b x y
-outcome_by_once law false words input files a b x y = x ∙ sym y
-
-outcome_front_by : ComesToOneThing → (play : Bool) (words : List (List ℕ)) (input : List ℕ) (files : Files) (a : Output) (front : List ℕ)
-    → OutcomeBy play words input files a → OutcomeFrontBy play words input files front → IsFront front a.text
-unfolding Played PlayedFront
-outcome_front_by law true words input files a front plays f = played_front_by law _ input front a plays f
-outcome_front_by law false words input files a front is f = subst (λ (o : Output). IsFront front o.text) (sym is) f
-
 pub one_outcome : ComesToOneThing → HasOneOutcome
-unfolding Outcome
-one_outcome law words input files first second x y = outcome_by_once law (is_play words) words input files first second x y
+unfolding Outcome Played
+one_outcome law (Some Play) input files a b x y = played_by_once law _ input a b x y
+one_outcome law other input files a b x y = x ∙ sym y
 
 pub fronts_of_the_outcome : ComesToOneThing → FrontsAreOfTheOutcome
-unfolding Outcome OutcomeFront
-fronts_of_the_outcome law words input files output front x y = outcome_front_by law (is_play words) words input files output front x y
+unfolding Outcome OutcomeFront Played PlayedFront
+fronts_of_the_outcome law (Some Play) input files a front x f = played_front_by law _ input front a x f
+fronts_of_the_outcome law other input files a front x f = subst (λ (o : Output). IsFront front o.text) (sym x) f

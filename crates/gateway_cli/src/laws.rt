@@ -3,7 +3,7 @@ ghost use Rattle.gateway_cli.specs.Commands.{HasOneOutcome, FrontsAreOfTheOutcom
 
 use gate_walk::laws::a_connection_comes_to_one_thing;
 
-/// The words, the input and the files come to one outcome.
+/// What the words ask for, the input and the files come to one outcome.
 pub fn there_is_one_outcome()
     ensures { HasOneOutcome }
 {

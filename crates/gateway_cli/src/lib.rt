@@ -1,6 +1,7 @@
 //! The commands of the program, and the one call that carries them out.
 //!
-//! [`run`] takes the words behind the program's name, an input, an output and an outside, and answers the program's status.
+//! [`run`] takes the words behind the program's name, an input, an output and an outside, and answers the program's status. What
+//! the words ask for is read once, by `command_words`; where memory is wanting for that, nothing is written.
 //! `play` reads a script from the input and plays it over an empty book, as `play_script` says it; `render TEMPLATE BODY`
 //! prints what the template of the one file gives over the body of the other; `check FILE` tells whether the file is a
 //! definition of an API; `admin STORE` carries out the commands that stand on the input over the tables of a store, as
@@ -40,14 +41,14 @@
 //! | a store that can't be read, a port that can't be had | `fault keeper`, `fault port`, with status 3 |
 //! | `orders 0 2`, `orders 65536 2`, `orders 8080 9`, `-orders 8080 2` | `usage`, with status 2 |
 //!
-//! What is promised: of every command but `admin` and `serve`, what `run` writes and answers is the outcome of its words, of its input and
-//! of the files, a definition that speaks of every script (`Plays` of `play_script`), of every two files (`specs/Render.antt`)
-//! and of every document (`specs/Check.antt`) to the byte, or a front of it where memory is wanting or the input, the output or
-//! a file fails; the program tells such a fault only where a count of faults rose in the call, or where the script tells its
-//! keeper's load to fail. Of `serve`, what it writes and answers is that of the ends of the lanes of one session over the
-//! store's tables, or of a bad row of them (`Ends` of `serve_command`); a fault comes only where a count of the outside or of
-//! the output rose, behind what that session wrote (`ServeFaulted` of `specs/Top.antt`). All that the outside lent is given
-//! back at every status.
+//! What is promised: of every command but `admin` and `serve`, what `run` writes and answers is the outcome (`specs/Commands.antt`)
+//! of what its words ask for (`command_of` of `command_words`), of its input and of the files, a definition that speaks of every
+//! script (`Plays` of `play_script`), of every two files (`specs/Render.antt`) and of every document (`specs/Check.antt`) to the
+//! byte, or a front of it where memory is wanting or the input, the output or a file fails; the program tells such a fault only
+//! where a count of faults rose in the call, or where the script tells its keeper's load to fail. Of `serve`, what it writes and
+//! answers is that of the ends of the lanes of one session over the store's tables, or of a bad row of them (`Ends` of
+//! `serve_command`); a fault comes only where a count of the outside or of the output rose, behind what that session wrote
+//! (`ServeFaulted` of `specs/Top.antt`). All that the outside lent is given back at every status.
 //!
 //! Of `admin`, what it writes and answers is what the lines come to over the store's tables, or a bad row of them
 //! (`specs/Admin.antt`), and where it is cut short some of the lines, from the first on, were carried out.
@@ -57,6 +58,7 @@
 
 mod administering;
 mod check;
+mod command;
 mod files;
 pub mod laws;
 mod limits;
@@ -67,7 +69,6 @@ mod say;
 mod serving;
 mod shown;
 mod stopped;
-mod words;
 
 pub use outside_core::{MemOutside, MemStore, Outside};
 pub use play_script::{PlayStop, play_within};

@@ -11,7 +11,7 @@ use std::alloc::Global;
 
 /// Why no book opened.
 #[derive(Clone, Copy, Debug, PartialEq, Eq)]
-pub(crate) enum OpenStop {
+pub enum OpenStop {
     /// This row of this table of the store, counted from 0, is none that a book starts from.
     BadStore(Table, u64),
     /// The store's keeper could not be had, or its load failed.
@@ -41,7 +41,7 @@ fn stop_by_lending_of(fault: KeeperStart) -> OpenStop
 }
 
 /// Opens a book over the store of this name. Where none opens, its keeper is given back.
-pub(crate) fn open<O: Outside<Entry>>(
+pub fn open_book<O: Outside<Entry>>(
     alloc: Global,
     outside: &mut O,
     store: &str,

@@ -1,13 +1,17 @@
-//! Tests of the command `serve` through `run`, over an outside in memory: two lanes, each with one connection, and the store `a`.
+//! Tests of the command `serve` through `run`, over an outside in memory: two lanes, each with one connection, and the store `a`; and of
+//! the sessions that it serves one after another.
 //!
 //! | Module | Shows |
 //! |---|---|
 //! | `sessions` | what is answered on the lanes, and what the outside has behind the session |
 //! | `endings` | a table of outsides with the lines that are printed and the statuses |
+//! | `chains` | sessions that follow each other over one lane, with a few entries each |
 //! | `wording` | words that ask for nothing that can be served |
 //! | `stores`, `outsides` | what the tests stand on |
 #![tactic(auto)]
 
+#[cfg(test)]
+mod chains;
 #[cfg(test)]
 mod endings;
 #[cfg(test)]

@@ -1,5 +1,5 @@
 -- Whether a session has a next one, and why no further one is served.
-use Rattle.std.proofs.Common.{◌≡◌, ◌≤◌, Bool, true, false, ◌&&◌, List, map, length, Result, Ok, Err, OnOk, IfOk, IfErr, ap, sym, ◌∙◌, refl, ℕ, arith}
+use Rattle.std.proofs.Common.{◌≡◌, ◌≤◌, Bool, true, false, ◌&&◌, List, map, length, Result, Ok, Err, OnOk, IfOk, IfErr, sym, ◌∙◌, refl, ℕ, arith}
 use Rattle.std.specs.Result.{is_ok}
 use Rattle.std.proofs.lemmas.List.{length-map}
 use Rattle.book_core.specs.declared.start.StartFault.{StartFault}

@@ -1,5 +1,5 @@
 -- How lanes end, and whether another session follows.
-use Rattle.std.specs.Prelude.{Bool, true, false, not, ◌&&◌, ◌||◌, List}
+use Rattle.std.specs.Prelude.{Bool, true, false, not, ◌&&◌, List}
 use Rattle.std.specs.List.{list_any}
 use Rattle.book_rules.specs.Machine.{shuts}
 use Rattle.book_rules.specs.declared.events.Entry.{Entry}

@@ -1,8 +1,6 @@
-use Rattle.std.proofs.Common.{◌≡◌, ◌≤◌, ◌&&◌, [], ◌∷◌, ◌++◌, Bool, true, false, Ok, Err, All, map, length, refl, sym, ap, ◌∙◌, subst, arith, List}
+use Rattle.std.proofs.Common.{◌≡◌, ◌&&◌, [], ◌∷◌, ◌++◌, true, false, map, refl, sym, ap, ◌∙◌, subst, arith}
 use Rattle.std.specs.Io.KnownBytes.{Appends}
 use Rattle.std.specs.Result.{is_ok}
-use Rattle.backend_core.specs.Exchanges.{gained}
-use Rattle.book_core.specs.Starts.{StartFails}
 use Rattle.gate_ports.specs.declared.lane.Lane.{Lane}
 use Rattle.gate_session.specs.Line.{session_line}
 use Rattle.outside_core.specs.Told.{LaneTold, told_of}

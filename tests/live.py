@@ -22,7 +22,11 @@ HEAD = b"HEAD /hello/v1 HTTP/1.1\r\nhost: localhost\r\n\r\n"
 
 def own_answer(status, cause, message, closes=False, head_only=False):
     """The bytes of one of the gateway's own answers."""
-    body = b'{"message":"%s"}' % message
+    return caused_answer(status, cause, b'{"message":"%s"}' % message, closes, head_only)
+
+
+def caused_answer(status, cause, body, closes=False, head_only=False):
+    """The same with a body of its API."""
     head = b"HTTP/1.1 %s\r\ncontent-type: application/json\r\nx-gateway-cause: %s\r\n" % (status, cause)
     close = b"connection: close\r\n" if closes else b""
     return head + close + b"content-length: %d\r\n\r\n" % len(body) + (b"" if head_only else body)
@@ -493,6 +497,30 @@ def a_file_that_is_no_store_is_told(server):
             expect(f"serve over {name}", other.run("serve", name, free_port(), "1"), (1, told))
 
 
+def requests_to_a_document_are_checked(server):
+    """The document of the examples: its paths, its parameters, its model, and its own answer to a path that is not there."""
+    with open(f"{TOP}/examples/books.json", "rb") as file:
+        document = file.read()
+    missing = b"Missing required request parameters: [%s]"
+    steps = [
+        (request(b"PUT", b"/_admin/apis/books", document), DONE),
+        (request(b"POST", b"/_admin/apis/books/deployments"), json_answer(b"200 OK", b'{"reply":"deployed 1"}')),
+        (request(b"PUT", b"/_admin/apis/books/stages/v1", b"1"), DONE),
+        (request(b"GET", b"/books/v1/books"), own_answer(b"400 Bad Request", b"BAD_REQUEST_PARAMETERS", missing % b"author, x-reader")),
+        (request(b"GET", b"/books/v1/books?author=Ann"), own_answer(b"400 Bad Request", b"BAD_REQUEST_PARAMETERS", missing % b"x-reader")),
+        (request(b"POST", b"/books/v1/books", b'{"year":1859}'), own_answer(b"400 Bad Request", b"BAD_REQUEST_BODY", b"Invalid request body")),
+        (request(b"GET", b"/books/v1/none"), caused_answer(b"404 Not Found", b"MISSING_AUTHENTICATION_TOKEN", b'{"message": "No such page"}')),
+        (request(b"PUT", b"/books/v1/books", b"{}"), caused_answer(b"404 Not Found", b"MISSING_AUTHENTICATION_TOKEN", b'{"message": "No such page"}')),
+        (
+            request(b"POST", b"/books/v1/books", b'{"title":"On the Origin"}'),
+            own_answer(b"500 Internal Server Error", b"API_CONFIGURATION_ERROR", b"Internal server error"),
+        ),
+    ]
+    with Client(server.port) as client:
+        for asked, answer in steps:
+            client.calls(f"to {asked[:60]}", asked, answer)
+
+
 def a_stage_shows_its_deployment_and_its_variables(server):
     """The guide's second and third steps, on the common program: they leave the stage that the other tests call unknown."""
     steps = [
@@ -521,6 +549,7 @@ def the_examples_do_what_stands_beside_them(server):
     examples = f"{TOP}/examples"
     expect("render", server.run("render", f"{examples}/greeting.vtl", f"{examples}/greeting.body"), (0, b"Dear Ann,\ngood morning.\n"))
     expect("check", server.run("check", f"{examples}/orders.json"), (0, b"ok resources=3 methods=3 models=1\n"))
+    expect("check", server.run("check", f"{examples}/books.json"), (0, b"ok resources=1 methods=2 models=1\n"))
     with open(f"{examples}/hello.script", "rb") as script, open(f"{examples}/hello.said", "rb") as said:
         ended = subprocess.run([server.program, "play"], stdin=script, capture_output=True, timeout=WAIT)
         expect("play", (ended.returncode, ended.stdout), (0, said.read()))
@@ -559,6 +588,7 @@ TESTS = [
     a_store_that_was_administered_is_served,
     a_file_that_is_no_store_is_told,
     a_stage_shows_its_deployment_and_its_variables,
+    requests_to_a_document_are_checked,
     the_examples_do_what_stands_beside_them,
     words_that_are_no_command_end_with_2,
     the_program_still_runs,

@@ -54,13 +54,10 @@ module _ (limits : Limits) (name : List ℕ) (lines : List (List ℕ)) (first no
   unopened_ends (Ok status) stop.Keeper n told = absurd told.1
   unopened_ends (Ok status) stop.Memory n told = absurd told.1
 
-  unopened_cut : (why : OpenStop) → NotOpened name first now why → IfBadStore why (λ line. AppendsFront written after line) → IsCutShort limits name lines first now written after
+  pub unopened_cut : (why : OpenStop) → NotOpened name first now why → IfBadStore why (λ line. AppendsFront written after line) → IsCutShort limits name lines first now written after
   unopened_cut (stop.BadStore table row) n told = inr (table, row, n.cause, n.none, told)
   unopened_cut stop.Keeper n told = absurd told
   unopened_cut stop.Memory n told = absurd told
-
-  pub unopened_output : (why : OpenStop) (before counted : ℕ) → NotOpened name first now why → Rose before counted × IfBadStore why (λ line. AppendsFront written after line) → Rose before counted × IsCutShort limits name lines first now written after
-  unopened_output why before counted n told = (told.0, unopened_cut why n told.1)
 
   pub unopened_memory : (why : OpenStop) → NotOpened name first now why → IfBadStore why (λ line. AppendsFront written after line) ⊎ (after ≡ written) → WantsMemory limits name lines first now written after
   unopened_memory why n (inl told) = inl (unopened_cut why n told)

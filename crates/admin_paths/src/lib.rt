@@ -21,8 +21,10 @@
 //! A path is taken as it is written: nothing in it is decoded. A parameter is one segment that has a byte.
 //!
 //! What is promised: the answer is `path_in` of the path's segments, in `specs/`, where the table stands without a router. Want of
-//! memory alone has no cause. The router takes some sixty small pieces of memory when it is made, and none when it is asked; the
-//! parameters are copied.
+//! memory alone has no cause.
+//!
+//! How it is built, not promised: the router is made once for an [`AdminPaths`], and takes memory for each path then, and none when it
+//! is asked. A path that is found takes memory for the list of its segments and a copy of each parameter.
 #![tactic(auto)]
 
 mod find;

@@ -10,7 +10,7 @@ use Rattle.play_script.specs.Printed.{line_feed}
 use Rattle.play_script.specs.declared.stops.PlayStop.{PlayStop}
 use Rattle.play_script.specs.declared.stops.PlayStop.TheVariants as play
 use Rattle.book_rules.specs.declared.events.Limits.{Limits}
-use Rattle.serve_command.specs.Serving.{NotHeld, OutputFails, PortFails}
+use Rattle.serve_command.specs.Serving.{KeeperFails, OutputFails, PortFails}
 use Rattle.serve_command.specs.Shelves.{Shelves}
 use Rattle.gateway_cli.specs.declared.stopped.Stopped.{Stopped}
 use Rattle.gateway_cli.specs.declared.stopped.Stopped.TheVariants as stopped
@@ -54,12 +54,12 @@ Faulted old new Front input files output load =
     ⊎ ((Stands input × Stands files × (load → ⊥) × Names old new Front output (codes "output"))
     ⊎ (Stands input × Stands files × load × SaysFault old new Front (codes "keeper"))))
 
--- Why serving ended with status 3, and what was written: the keeper could not be had or did not load; a look failed, of which a count of
--- the outside tells; or a write failed, of which the count of the output tells. Behind what was written before stands a front of the line
+-- Why serving ended with status 3, and what was written: the keeper could not be had or did not load, or a next session did not start over
+-- it; a look failed, of which a count of the outside tells; or a write failed, of which the count of the output tells. Behind what was written before stands a front of the line
 -- that names it.
 abbrev pub ServeFaulted : Limits → List ℕ → ℕ → Shelves → Shelves → Count → Option (List ℕ) → Option (List ℕ) → Type 0
 ServeFaulted limits name lanes old new output written now =
-    (Rose old.faults new.faults × NotHeld old new × AppendsFront written now (codes "fault keeper\n"))
+    ((mid : Option (List ℕ)) × KeeperFails limits name lanes old new written mid × AppendsFront mid now (codes "fault keeper\n"))
     ⊎ (((mid : Option (List ℕ)) × PortFails limits name lanes old new written mid × AppendsFront mid now (codes "fault port\n"))
     ⊎ ((mid : Option (List ℕ)) × Rose output.before output.now × OutputFails limits name lanes old new written mid × AppendsFront mid now (codes "fault output\n")))
 

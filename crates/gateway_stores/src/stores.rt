@@ -1,5 +1,6 @@
 // Stores in files.
-ghost use Rattle.std.specs.Prelude.{◌≡◌};
+ghost use Rattle.std.specs.Prelude.{◌≡◌, nat_lt};
+ghost use Rattle.keeper_sqlite.specs.Stands.{told_by};
 ghost use Rattle.gateway_stores.specs.Starts.{start_by};
 
 use gateway_machine::Stores;
@@ -41,7 +42,9 @@ impl<'r> Stores for FileStores<'r> {
         }
     }
 
-    fn has_failed(keep: &SqliteKeeper) -> bool {
+    fn has_failed(keep: &SqliteKeeper) -> bool
+        ensures { result ≡ nat_lt 0 (told_by keep.now).loads }
+    {
         keep.loads() > 0
     }
 }

@@ -1,4 +1,4 @@
--- Lanes that are given back behind their session.
+-- Lanes that are given back behind their sessions.
 use Rattle.std.proofs.Common.{◌≡◌, ℕ, suc, ◌+◌, ◌≤◌, nat_lt, Bool, true, false, ◌||◌, List, [], ◌∷◌, length, map, ap, refl, arith}
 use Rattle.std.specs.List.{list_any}
 use Rattle.book_rules.specs.History.{Base}
@@ -8,25 +8,15 @@ use Rattle.gate_walk.specs.declared.ended.LaneEnd.{LaneEnd}
 use Rattle.gate_walk.specs.declared.ended.LaneEnd.TheVariants.{Ended, Closing, PortFault, Full, Memory}
 use Rattle.gw_base.specs.Outside.{Rose}
 use Rattle.outside_core.specs.Told.{LaneTold}
-use Rattle.serve_command.specs.Ends.{has_port_fault}
-
--- as many lanes are there as before
-pub as_many : (base : Base) (number : ℕ) (before now : List LaneTold) (ends : List LaneEnd) (history : List Entry) → LanesDid base number before now ends history → length now ≡ length before
-as_many base number [] [] [] history d = refl
-as_many base number [] [] (e ∷ es) history d = absurd d
-as_many base number [] (a ∷ rest) ends history d = absurd d
-as_many base number (b ∷ bs) [] ends history d = absurd d
-as_many base number (b ∷ bs) (a ∷ rest) [] history d = absurd d
-as_many base number (b ∷ bs) (a ∷ rest) (e ∷ es) history d = ap suc (as_many base (number + 1) bs rest es history d.1)
+use Rattle.session_chain.specs.Ends.{has_port_fault}
+use Rattle.serve_command.specs.Holding.{has_failed}
 
 pub rose_from : (first before now : ℕ) → first ≤ before → Rose before now → Rose first now
 rose_from first before now h r = omega (arith, h, r)
 
-above_none : (before now : ℕ) → Rose before now → nat_lt 0 now ≡ true
+-- a count that rose is above none
+pub above_none : (before now : ℕ) → Rose before now → nat_lt 0 now ≡ true
 above_none before now r = grind (arith, r)
-
-abbrev pub has_failed : LaneTold → Bool
-has_failed told = nat_lt 0 told.faults
 
 or_true : (a b : Bool) → b ≡ true → (a || b) ≡ true
 or_true true b e = refl

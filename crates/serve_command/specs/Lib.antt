@@ -1,8 +1,8 @@
--- how the ends of lanes end a session, and what is printed of it
+-- why serving stops, and what is printed of a bad store
 pub mod Ends
 -- what comes of opening a store
 pub mod Opening
--- what holding a session leaves of an outside
+-- what giving a keeper and lanes back leaves of an outside
 pub mod Holding
 -- what serving comes to
 pub mod Serving

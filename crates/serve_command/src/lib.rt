@@ -1,31 +1,34 @@
-//! The command `serve`: a session over the lanes of an outside and the tables of a store of it.
+//! The command `serve`: sessions over the lanes of an outside and the tables of a store of it, one after another where each is full.
 //!
 //! ```text
 //! let asked = Asked { store: "memory", port: 8080, lanes: 4 };
-//! serve(rt, alloc, limits, &asked, &mut output, &mut outside)      // Ok(0), and the output is the session's line
+//! serve(rt, alloc, limits, &asked, &mut output, &mut outside)      // Ok(0), and the output is one line a session
 //! ```
 //!
 //! | What happens | is written | answers |
 //! |---|---|---|
 //! | each lane ends for itself, or since the session is closing | the session's line | `Ok(0)` |
-//! | a lane ends since the session is full | that line, and `full ENTRIES BYTES` of the first such lane | `Ok(4)` |
+//! | a lane ends since the session is full | that line | what comes of the next session |
+//! | a lane ends since the session is full, in whose history a Shutdown stands | that line | `Ok(0)` |
 //! | a row of the store is none that a book starts from | `refused BadStore(TABLE,ROW)` | `Ok(1)` |
 //! | the store's keeper can't be had, or its load fails | nothing | `Err(Keeper)` |
+//! | a next session does not start over the keeper | the lines so far | `Err(Keeper)` |
 //! | the lanes can't be had | nothing | `Err(Port)` |
-//! | a look for a connection fails on a lane | the session's line | `Err(Port)` |
-//! | memory is wanting on a lane | the session's line | `Err(Memory)` |
+//! | a look for a connection fails on a lane | the lines so far | `Err(Port)` |
+//! | memory is wanting on a lane | the lines so far | `Err(Memory)` |
 //!
-//! What is promised, over every outside (`specs/Serving.antt`): a status is answered only behind one session (`Held`), whose book
-//! opened with the store's tables under the limits, over the first lanes that waited. Each lane did what its connections ask for in
-//! the one history, which was handed on; the keeper was given back with that history's tables, so that the store has them, and the
-//! entries that it did not keep are at most the faults that it counted. The line is that history's. A fault has its count: the
-//! outside's, or the output's. All that was lent is given back, whatever comes (`AllIsBack`).
+//! What is promised, over every outside (`specs/Serving.antt`): a status is answered only behind a chain of sessions (`Held`), as
+//! `session_chain` says it. The first book opened with the store's tables under the limits, over the first lanes that waited; each further
+//! one begins with the tables that the history before left, over the lanes as they then stood. Each session but the last has a next one.
+//! Every history was handed on; the keeper was given back with the tables of the last, so that the store has them, and the
+//! entries of a session that it did not keep are at most the faults that it counted. The lines are those of the histories. A fault has its
+//! count, the outside's or the output's, or the bad row as its cause. All that was lent is given back, whatever comes (`AllIsBack`).
 //!
-//! Left out: that a keeper which told its tables tells them still at the end; sessions that follow each other.
+//! Left out: that a keeper which told its tables tells them still at the end; that the sessions come to an end. Since another session
+//! follows a full one, no status tells that a session was full.
 #![tactic(auto)]
 
 mod command;
-mod ends;
 mod hold;
 mod lines;
 mod open;

@@ -7,9 +7,9 @@ use gw_base::Memory;
 /// Why serving stops before its end.
 #[derive(Clone, Copy, Debug, PartialEq, Eq)]
 pub enum ServeStop {
-    /// The store's keeper could not be had, or its load failed.
+    /// The store's keeper could not be had, or a load of it failed, or a row of it is none that a next session starts from.
     Keeper,
-    /// No lanes could be had, or a look for a connection failed on one.
+    /// No lanes could be had, or a look for a connection failed on one of the last session.
     Port,
     /// A write of the output failed.
     Output,

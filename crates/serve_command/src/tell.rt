@@ -1,18 +1,20 @@
-// What is printed behind a session.
-ghost use Rattle.std.specs.Prelude.{◌≡◌, ◌≢◌, ◌⊎◌, ◌++◌, true, false, Err, IfOk, IsErrOf};
+// What is printed of a bad store, and the status behind the last session.
+ghost use Rattle.std.specs.Prelude.{◌≡◌, ◌≢◌, ◌⊎◌, true, false, Err, IfOk, IsErrOf};
 ghost use Rattle.std.specs.Io.KnownBytes.{Appends};
 ghost use Rattle.std.specs.List.{list_any};
 ghost use Rattle.gw_base.specs.Outside.{Rose};
 ghost use Rattle.gw_base.specs.Whole.{AppendsFront};
 ghost use Rattle.serve_command.specs.Opening.{IfBadStore};
-ghost use Rattle.serve_command.specs.Ends.{wants_memory, has_port_fault, first_full as first_full_of, last_line as last_line_of, status_of as status_by, stopped_by};
+ghost use Rattle.serve_command.specs.Ends.{IfServed, IfStopped, stopped_by, stop_by_all, stop_by_next};
+ghost use Rattle.session_chain.specs.Ends.{wants_memory, has_port_fault};
 
-use crate::ends::{any_port_fault, any_wants_memory, first_full};
-use crate::lines::{bad_store_line, last_line};
+use crate::lines::bad_store_line;
 use crate::open::OpenStop;
 use crate::stop::ServeStop;
-use gate_walk::{LaneEnd, SessionFull};
-use gw_base::{Sink, Text, WriteStop, write_all};
+use book_core::StartFault;
+use gate_walk::LaneEnd;
+use gw_base::{Sink, WriteStop, write_all};
+use session_chain::{AllFault, any_port_fault, any_wants_memory};
 use std::alloc::Global;
 
 fn stop_of(stop: WriteStop) -> ServeStop
@@ -21,15 +23,6 @@ fn stop_of(stop: WriteStop) -> ServeStop
     match stop {
         WriteStop::Failed => ServeStop::Output,
         WriteStop::Memory => ServeStop::Memory,
-    }
-}
-
-fn status_of(full: Option<SessionFull>) -> u8
-    ensures { result ≡ status_by full }
-{
-    match full {
-        Some(_) => 4,
-        None => 0,
     }
 }
 
@@ -59,49 +52,51 @@ pub fn tell_unopened<W: Sink>(
     }
 }
 
-// Writes the line behind the session's own.
-fn tell_last<W: Sink>(
-    alloc: Global,
-    output: &mut W,
-    full: Option<SessionFull>,
-) -> Result<u8, ServeStop>
-    ensures told { IfOk result (λ status. (status ≡ status_by full) × Appends (W.written output.old) (W.written output.new) (last_line_of full)) }
-    ensures front { AppendsFront (W.written output.old) (W.written output.new) (last_line_of full) }
-    ensures output { IsErrOf result ServeStop.Output → Rose (W.faults output.old) (W.faults output.new) }
+// The status behind the last session, by how its lanes ended. Want of memory on a lane comes first, then a failed look.
+fn status_of(ends: &[LaneEnd]) -> Result<u8, ServeStop>
+    ensures told { IfOk result (λ status. (status ≡ 0) × (list_any wants_memory ends.now ≡ false) × (list_any has_port_fault ends.now ≡ false)) }
+    ensures port { IsErrOf result ServeStop.Port → (list_any wants_memory ends.now ≡ false) × (list_any has_port_fault ends.now ≡ true) }
     ensures keeper { result ≢ Err ServeStop.Keeper }
-    ensures port { result ≢ Err ServeStop.Port }
+    ensures output { result ≢ Err ServeStop.Output }
 {
-    let line = last_line(alloc, full)?;
-    match write_all(output, line.as_str().as_bytes()) {
-        Ok(()) => Ok(status_of(full)),
-        Err(stop) => Err(stop_of(stop)),
-    }
-}
-
-/// Writes the line of a session and what its lanes' ends print. Want of memory on a lane comes first, then a failed look, then what the
-/// output does.
-pub(crate) fn tell<W: Sink>(
-    alloc: Global,
-    output: &mut W,
-    line: &Text,
-    ends: &[LaneEnd],
-) -> Result<u8, ServeStop>
-    ensures told { IfOk result (λ status. (list_any wants_memory ends.now ≡ false) × (list_any has_port_fault ends.now ≡ false)
-        × (status ≡ status_by (first_full_of ends.now)) × Appends (W.written output.old) (W.written output.new) (line.now ++ last_line_of (first_full_of ends.now))) }
-    ensures port { IsErrOf result ServeStop.Port → (list_any wants_memory ends.now ≡ false) × (list_any has_port_fault ends.now ≡ true) × AppendsFront (W.written output.old) (W.written output.new) line.now }
-    ensures output { IsErrOf result ServeStop.Output → Rose (W.faults output.old) (W.faults output.new)
-        × (list_any wants_memory ends.now ≡ false) × (list_any has_port_fault ends.now ≡ false) × AppendsFront (W.written output.old) (W.written output.new) (line.now ++ last_line_of (first_full_of ends.now)) }
-    ensures keeper { result ≢ Err ServeStop.Keeper }
-{
-    let said = write_all(output, line.as_str().as_bytes());
     if any_wants_memory(ends) {
         return Err(ServeStop::Memory);
     }
     if any_port_fault(ends) {
         return Err(ServeStop::Port);
     }
-    match said {
-        Ok(()) => tell_last(alloc, output, first_full(ends)),
-        Err(stop) => Err(stop_of(stop)),
+    Ok(0)
+}
+
+fn stop_of_next(fault: StartFault) -> ServeStop
+    ensures { result ≡ stop_by_next fault }
+{
+    match fault {
+        StartFault::BadStore(_, _) | StartFault::StoreFault => ServeStop::Keeper,
+        StartFault::Memory => ServeStop::Memory,
+    }
+}
+
+// Why serving stops where no further session is served.
+fn stop_of_all(fault: AllFault) -> ServeStop
+    ensures { result ≡ stop_by_all fault }
+{
+    match fault {
+        AllFault::Start(fault) => stop_of_next(fault),
+        AllFault::Output => ServeStop::Output,
+        AllFault::Memory => ServeStop::Memory,
+    }
+}
+
+/// The status behind the last session, or why serving stops there.
+pub(crate) fn answer(outcome: Result<Vec<LaneEnd>, AllFault>) -> Result<u8, ServeStop>
+    ensures told { IfOk result (λ status. (status ≡ 0) × IfServed outcome (λ ends. (list_any wants_memory ends.items ≡ false) × (list_any has_port_fault ends.items ≡ false))) }
+    ensures port { IsErrOf result ServeStop.Port → IfServed outcome (λ ends. (list_any wants_memory ends.items ≡ false) × (list_any has_port_fault ends.items ≡ true)) }
+    ensures keeper { IsErrOf result ServeStop.Keeper → IfStopped outcome (λ fault. stop_by_all fault ≡ ServeStop.Keeper) }
+    ensures output { IsErrOf result ServeStop.Output → IfStopped outcome (λ fault. fault ≡ AllFault.Output) }
+{
+    match outcome {
+        Ok(ends) => status_of(&ends),
+        Err(fault) => Err(stop_of_all(fault)),
     }
 }

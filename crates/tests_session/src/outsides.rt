@@ -16,7 +16,7 @@ use std::thread::Threads;
 
 pub(crate) type MemOut = MemOutside<Entry, MemBackend, FreeGate>;
 
-type MemLane = Lane<MemPort, MemBackend, FixedClock, SplitMix, FreeGate>;
+pub(crate) type MemLane = Lane<MemPort, MemBackend, FixedClock, SplitMix, FreeGate>;
 
 /// An outside with the store `a` and two lanes.
 #[derive(Clone, Copy)]
@@ -39,13 +39,14 @@ pub(crate) const PLAIN: Plan = Plan {
 };
 
 /// A message of 66 bytes.
-const ANN: &'static [u8] =
+pub(crate) const ANN: &'static [u8] =
     b"POST /hello/v1 HTTP/1.1\r\nhost: localhost\r\ncontent-length: 3\r\n\r\nAnn";
 
-fn conn(alloc: Global) -> Result<MemConn, Fail>
+/// A connection on which these bytes come.
+pub(crate) fn conn(alloc: Global, bytes: &[u8]) -> Result<MemConn, Fail>
     ensures { IfOk result IsUnwritten }
 {
-    let source = MemSource::new(Vec::from_slice(alloc, ANN)?, 4096, Vec::new(alloc));
+    let source = MemSource::new(Vec::from_slice(alloc, bytes)?, 4096, Vec::new(alloc));
     let sink = MemSink::new(alloc, Vec::new(alloc));
     Ok(MemConn::new(source, sink))
 }
@@ -55,7 +56,7 @@ fn lane(alloc: Global, looks: &[u32]) -> Result<MemLane, Fail>
     ensures { IfOk result IsUnusedLane }
 {
     let mut conns = Vec::new(alloc);
-    conns.push(conn(alloc)?)?;
+    conns.push(conn(alloc, ANN)?)?;
     Ok(Lane {
         port: MemPort::new(conns, Vec::from_slice(alloc, looks)?),
         means: Means {

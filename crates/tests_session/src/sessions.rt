@@ -5,7 +5,7 @@ use std::sync::Wait;
 use std::test::Fail;
 use std::thread::Threads;
 
-const HI_ANN: &'static [u8] =
+pub(crate) const HI_ANN: &'static [u8] =
     b"HTTP/1.1 200 OK\r\ncontent-type: text/plain\r\ncontent-length: 7\r\n\r\nHi Ann!";
 
 // The outside behind a session over both of its lanes.

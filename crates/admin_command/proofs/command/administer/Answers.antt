@@ -1,6 +1,6 @@
-use Rattle.std.proofs.Common.{Err, inl, ap}
+use Rattle.std.proofs.Common.{inl}
 use Rattle.play_script.specs.Coding.{lines_of}
-use Rattle.admin_command.proofs.Administered.{all_ends, cut_ends, over_store, unopened_ends, unopened_memory, unopened_output}
+use Rattle.admin_command.proofs.Administered.{all_ends, cut_ends, over_store, unopened_cut, unopened_ends, unopened_memory}
 use Rattle.admin_command.proofs.command.administer.Goals as goal
 
 pub returns-in-Err-clause-ends : goal.returns-in-Err-clause-ends
@@ -8,10 +8,10 @@ returns-in-Err-clause-ends g c =
     unopened_ends c.args.limits c.args.store.now (lines_of c.args.lines.now) _ _ (g.W.Sink.written c.args.output.now) (g.W.Sink.written c.tell_unopened.new.output) c.tell_unopened.result c.in-Err.stop c.in-Err.ensures.refused
     c.tell_unopened.ensures.told
 
-pub returns-in-Err-clause-output : goal.returns-in-Err-clause-output
-returns-in-Err-clause-output g c =
-    λ e. unopened_output c.args.limits c.args.store.now (lines_of c.args.lines.now) _ _ (g.W.Sink.written c.args.output.now) (g.W.Sink.written c.tell_unopened.new.output) c.in-Err.stop
-    (g.W.Sink.faults c.args.output.now) (g.W.Sink.faults c.tell_unopened.new.output) c.in-Err.ensures.refused (c.tell_unopened.ensures.output e)
+pub returns-in-Err-clause-cut : goal.returns-in-Err-clause-cut
+returns-in-Err-clause-cut g c =
+    λ e. unopened_cut c.args.limits c.args.store.now (lines_of c.args.lines.now) _ _ (g.W.Sink.written c.args.output.now) (g.W.Sink.written c.tell_unopened.new.output) c.in-Err.stop c.in-Err.ensures.refused
+    (c.tell_unopened.ensures.output e).1
 
 pub returns-in-Err-clause-memory : goal.returns-in-Err-clause-memory
 returns-in-Err-clause-memory g c =
@@ -25,16 +25,12 @@ returns-in-Ok-carried-clause-ends g c =
     all_ends c.args.limits c.args.store.now (lines_of c.args.lines.now) _ _ (g.W.Sink.written c.args.output.now) (g.W.Sink.written c.carry_out_lines-carried.new.output) c.in-Ok-carried.status c.in-Ok.book.base
     c.carry_out_lines-carried.new.book.history over c.in-Ok-carried.ensures.all
 
-pub returns-in-Err-Failed-clause-output : goal.returns-in-Err-Failed-clause-output
-returns-in-Err-Failed-clause-output g c =
-    let rose = c.in-Err-Failed.ensures-1.cause.failed (ap Err c.in-Err-Failed.field-0-is) in
+pub returns-in-Err-Failed-clause-cut : goal.returns-in-Err-Failed-clause-cut
+returns-in-Err-Failed-clause-cut g c =
     let over = over_store c.args.limits c.args.store.now _ _ _ c.in-Ok.book.base c.carry_out_lines-carried.new.book.base c.in-Ok.book.history c.carry_out_lines-carried.new.book.history
     c.carry_out_lines-carried.ensures.base c.in-Ok.ensures.opened c.give_back.ensures in
-    λ e. (
-      rose,
-      cut_ends c.args.limits c.args.store.now (lines_of c.args.lines.now) _ _ (g.W.Sink.written c.args.output.now) (g.W.Sink.written c.carry_out_lines-carried.new.output) c.in-Ok.book.base
-          c.carry_out_lines-carried.new.book.history over c.in-Err-Failed.ensures-1.cut,
-    )
+    λ e. cut_ends c.args.limits c.args.store.now (lines_of c.args.lines.now) _ _ (g.W.Sink.written c.args.output.now) (g.W.Sink.written c.carry_out_lines-carried.new.output) c.in-Ok.book.base
+    c.carry_out_lines-carried.new.book.history over c.in-Err-Failed.ensures-1.cut
 
 pub returns-in-Err-Memory-clause-memory : goal.returns-in-Err-Memory-clause-memory
 returns-in-Err-Memory-clause-memory g c =

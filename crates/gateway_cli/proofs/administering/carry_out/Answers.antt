@@ -10,8 +10,8 @@ returns-in-Ok-clause-ends g c = ends_within c.args.store.now c.args.lines.now _ 
 pub returns-in-Err-clause-output : goal.returns-in-Err-clause-output
 unfolding session_limits
 returns-in-Err-clause-output g c = λ e.
-    let told = c.in-Err.ensures.output (cc (c.stop_of.ensures.output (cc e))) in
-    (told.0, cut_within c.args.store.now c.args.lines.now _ _ _ _ _ refl c.requires told.1)
+    let stopped = c.stop_of.ensures.output (cc e) in
+    (c.in-Err.ensures.output (cc stopped), cut_within c.args.store.now c.args.lines.now _ _ _ _ _ refl c.requires (c.in-Err.ensures.cut (cc stopped)))
 
 pub returns-in-Err-clause-memory : goal.returns-in-Err-clause-memory
 unfolding session_limits

@@ -6,6 +6,12 @@ pub returns-in-Ok-clause-ends : goal.returns-in-Ok-clause-ends
 unfolding session_limits
 returns-in-Ok-clause-ends g c = λ fault memory. c.in-Ok.ensures.ends
 
+pub returns-in-Err-Keeper-clause-fault : goal.returns-in-Err-Keeper-clause-fault
+unfolding session_limits
+returns-in-Err-Keeper-clause-fault g c =
+    let fails = c.in-Err-Keeper.ensures.keeper (cc c.in-Err-Keeper.field-0-is) in
+    λ e. inl (g.W.Sink.written c.serve.new.output, fails, c.say_fault.ensures.front)
+
 pub returns-in-Err-Port-clause-fault : goal.returns-in-Err-Port-clause-fault
 unfolding session_limits
 returns-in-Err-Port-clause-fault g c =

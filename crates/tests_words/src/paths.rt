@@ -1,0 +1,72 @@
+// Paths behind `/_admin/`, and what they are.
+use admin_paths::{AdminPath, AdminPaths};
+use gw_base::Memory;
+use std::alloc::Global;
+use std::test::Fail;
+
+/// A path, and what it is.
+type Asked = (&'static str, &'static str);
+
+const PATHS: [Asked; 29] = [
+    ("apis/hello", "document hello"),
+    ("apis/hello/text", "template hello"),
+    ("apis/hello/deployments", "deployments hello"),
+    ("apis/hello/stages/test", "stage hello test"),
+    ("shutdown", "shutdown"),
+    // A parameter is taken as it is written, whatever its bytes.
+    ("apis/a%2Fb", "document a%2Fb"),
+    ("apis/é", "document é"),
+    ("apis/{api}", "document {api}"),
+    ("apis/text", "document text"),
+    ("apis/text/text", "template text"),
+    ("apis/stages/stages/stages", "stage stages stages"),
+    ("apis/shutdown", "document shutdown"),
+    // A segment more or less, or one without a byte.
+    ("", "none"),
+    ("/", "none"),
+    ("apis", "none"),
+    ("apis/", "none"),
+    ("apis//text", "none"),
+    ("apis/hello/", "none"),
+    ("apis/hello/text/", "none"),
+    ("apis/hello/stages", "none"),
+    ("apis/hello/stages/", "none"),
+    ("apis//stages/test", "none"),
+    ("apis/hello/stages/test/more", "none"),
+    ("shutdown/", "none"),
+    ("/shutdown", "none"),
+    // Another literal.
+    ("APIS/hello", "none"),
+    ("apis/hello/Text", "none"),
+    ("apis/hello/texts", "none"),
+    ("shutdow", "none"),
+];
+
+fn told(alloc: Global, path: &AdminPath) -> Result<String, Memory> {
+    Ok(match path {
+        AdminPath::Document { api } => format!(in alloc; "document {}", api.as_str())?,
+        AdminPath::Template { api } => format!(in alloc; "template {}", api.as_str())?,
+        AdminPath::Deployments { api } => format!(in alloc; "deployments {}", api.as_str())?,
+        AdminPath::Stage { api, stage } => {
+            format!(in alloc; "stage {} {}", api.as_str(), stage.as_str())?
+        }
+        AdminPath::Shutdown => String::from_str(alloc, "shutdown")?,
+    })
+}
+
+fn answer(alloc: Global, paths: &AdminPaths, path: &str) -> Result<String, Memory> {
+    match paths.find(alloc, path)? {
+        Some(found) => told(alloc, &found),
+        None => Ok(String::from_str(alloc, "none")?),
+    }
+}
+
+#[test]
+fn a_path_is_one_of_the_table(rt: HostRuntime) -> Result<(), Fail> {
+    let paths = AdminPaths::new(rt.alloc())?;
+    for (path, wanted) in &PATHS {
+        let answer = answer(rt.alloc(), &paths, path)?;
+        assert_eq!(rt; answer.as_str(), *wanted);
+    }
+    Ok(())
+}

@@ -1,5 +1,3 @@
--- text APIs that are refused
-pub mod Texts
 -- how lines are carried out, one by one
 pub mod Going
 -- the places of the changes that were lost

@@ -1,16 +1,14 @@
 -- What a line of commands asks for.
 use Rattle.std.specs.Prelude.{ℕ, List, Result, Ok, Err}
-use Rattle.vtl_grammar.specs.Templates.{read_of}
-use Rattle.vtl_grammar.specs.Tree.{Items}
-use Rattle.vtl_grammar.specs.declared.fault.TemplateFault.{TemplateFault}
+use Rattle.api_model.specs.Definition.{document, text}
 use Rattle.book_rules.specs.declared.events.Command.{Command}
 use Rattle.book_rules.specs.declared.events.Command.TheVariants as command
-use Rattle.play_script.specs.Play.{put_api}
+use Rattle.play_script.specs.Definitions.{Taken, taken}
 use Rattle.play_script.specs.Records.{record_in}
 use Rattle.play_script.specs.declared.records.LineFault.{LineFault}
-use Rattle.play_script.specs.declared.records.LineFault.TheVariants.{BadRecord, Template}
+use Rattle.play_script.specs.declared.records.LineFault.TheVariants.{BadRecord}
 use Rattle.play_script.specs.declared.records.Record.{Record}
-use Rattle.play_script.specs.declared.records.Record.TheVariants.{PutText, Deploy, PutStage, Shutdown, Post, Call}
+use Rattle.play_script.specs.declared.records.Record.TheVariants.{PutText, PutDocument, Deploy, PutStage, Shutdown, Post, Call}
 use Rattle.admin_command.specs.declared.orders.Order.{Order}
 
 -- a command at its moment, or why the line has none
@@ -20,14 +18,15 @@ Asked = Result Order LineFault
 abbrev pub ordered : ℕ → Command → Asked
 ordered moment asked = Ok (record { moment = moment; command = asked })
 
--- a text API is put where its template is read
-abbrev pub put_by : ℕ → List ℕ → List ℕ → Result Items TemplateFault → Asked
-put_by moment api template (Ok items) = ordered moment (put_api api template)
-put_by moment api template (Err fault) = Err (Template fault)
+-- a definition is put where it is taken
+abbrev pub put_by : ℕ → List ℕ → Taken → Asked
+put_by moment api (Ok definition) = ordered moment (command.PutApi api definition)
+put_by moment api (Err fault) = Err fault
 
 -- a record asks for its command; the calls of a script are none
 abbrev pub asked_by : Record → Asked
-asked_by (PutText moment api template) = put_by moment api template (read_of template)
+asked_by (PutText moment api template) = put_by moment api (taken (text template))
+asked_by (PutDocument moment api source) = put_by moment api (taken (document source))
 asked_by (Deploy moment api) = ordered moment (command.Deploy api)
 asked_by (PutStage moment api stage deployment variables) = ordered moment (command.PutStage api stage deployment (record { pairs = variables }))
 asked_by (Shutdown moment) = ordered moment command.Shutdown

@@ -1,36 +1,34 @@
 // What a line of commands asks for.
 ghost use Rattle.std.specs.Prelude.{◌≡◌, IfOk};
-ghost use Rattle.vtl_grammar.specs.Templates.{read_of};
 ghost use Rattle.admin_command.specs.Lines.{put_by, asked_by as asked_by_record, asked_in as asked_in_line};
 
 use crate::orders::Order;
-use api_model::{Api, ApiCause, ApiFault};
+use api_model::Api;
 use book_rules::Command;
 use call_facts::Vars;
 use gw_base::{Memory, Seq, Shared, Text};
-use play_script::{LineFault, Record, record_in};
+use play_script::{LineFault, Record, record_in, take_document, take_text};
 use std::alloc::Global;
 
 /// A command at its moment, or why the line has none.
 type Asked = Result<Order, LineFault>;
 
-// A text API is put where its template is read.
-fn put_text(alloc: Global, moment: u64, api: Text, template: &str) -> Result<Asked, Memory>
-    ensures { IfOk result (λ asked. asked ≡ put_by moment api template.now (read_of template.now)) }
+// A definition is put where it is taken.
+fn put(
+    alloc: Global,
+    moment: u64,
+    api: Text,
+    taken: Result<Api, LineFault>,
+) -> Result<Asked, Memory>
+    ensures { IfOk result (λ asked. asked ≡ put_by moment api taken) }
 {
-    match Api::text(alloc, template) {
+    match taken {
         Ok(definition) => {
             let definition = Shared::new(alloc, definition)?;
             let command = Command::PutApi { api, definition };
             Ok(Ok(Order { moment, command }))
         }
-        Err(
-            ApiFault {
-                cause: ApiCause::Template(fault),
-                ..
-            },
-        ) => Ok(Err(LineFault::Template(fault))),
-        Err(_) => Err(Memory),
+        Err(fault) => Ok(Err(fault)),
     }
 }
 
@@ -64,7 +62,18 @@ fn asked_by(alloc: Global, found: Record) -> Result<Asked, Memory>
             moment,
             api,
             template,
-        } => put_text(alloc, moment, api, template.as_str()),
+        } => {
+            let taken = take_text(alloc, template.as_str())?;
+            put(alloc, moment, api, taken)
+        }
+        Record::PutDocument {
+            moment,
+            api,
+            document,
+        } => {
+            let taken = take_document(alloc, document.as_str())?;
+            put(alloc, moment, api, taken)
+        }
         Record::Deploy { moment, api } => Ok(Ok(Order {
             moment,
             command: Command::Deploy { api },

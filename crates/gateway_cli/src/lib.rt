@@ -5,8 +5,8 @@
 //! `play` reads a script from the input and plays it over an empty book, as `play_script` says it; `render TEMPLATE BODY`
 //! prints what the template of the one file gives over the body of the other; `check FILE` tells whether the file is a
 //! definition of an API; `admin STORE` carries out the commands that stand on the input over the tables of a store, as
-//! `admin_command` says it; `serve STORE PORT LANES` serves a session over so many lanes at a port of the loopback and over the
-//! tables of a store, as `serve_command` says it, and prints its line.
+//! `admin_command` says it; `serve STORE PORT LANES` serves sessions over so many lanes at a port of the loopback and over the
+//! tables of a store, one behind another where each is full, as `serve_command` says it, and prints a line for each.
 //!
 //! ```text
 //! let status = run(rt, alloc, &words, &mut input, &mut output, &mut outside);
@@ -35,7 +35,7 @@
 //! | `serve` of | prints |
 //! |---|---|
 //! | `orders 8080 2`, where each lane had one call | `session entries=4 calls=2 admitted=0 throttled=0 quota=0 notkept=0` |
-//! | the same, where the session got full | that line, and `full` with its entries and their bytes, with status 4 |
+//! | the same, where the session got full | that line, and behind it what the next session prints |
 //! | the same, where a look for a connection failed | that line, and `fault port`, with status 3 |
 //! | a store whose first row of deployments is none that can be | `refused BadStore(deployments,0)`, with status 1 |
 //! | a store that can't be read, a port that can't be had | `fault keeper`, `fault port`, with status 3 |
@@ -46,9 +46,9 @@
 //! script (`Plays` of `play_script`), of every two files (`specs/Render.antt`) and of every document (`specs/Check.antt`) to the
 //! byte, or a front of it where memory is wanting or the input, the output or a file fails; the program tells such a fault only
 //! where a count of faults rose in the call, or where the script tells its keeper's load to fail. Of `serve`, what it writes and
-//! answers is that of the ends of the lanes of one session over the store's tables, or of a bad row of them (`Ends` of
-//! `serve_command`); a fault comes only where a count of the outside or of the output rose, behind what that session wrote
-//! (`ServeFaulted` of `specs/Top.antt`). All that the outside lent is given back at every status.
+//! answers is that of sessions over the store's tables, each behind a full one, or of a bad row of them (`Ends` of
+//! `serve_command`); a fault comes only where a count of the outside or of the output rose, or a next session did not start,
+//! behind what the sessions wrote (`ServeFaulted` of `specs/Top.antt`). All that the outside lent is given back at every status.
 //!
 //! Of `admin`, what it writes and answers is what the lines come to over the store's tables, or a bad row of them
 //! (`specs/Admin.antt`), and where it is cut short some of the lines, from the first on, were carried out.

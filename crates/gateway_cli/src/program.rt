@@ -324,10 +324,11 @@ where
         (record { before = W.faults output.old; now = W.faults output.new })
         (TellsLoadToFail (command_of words.now) script))) }
 
-    // Of `serve`, the status and what is written are those of the ends of the lanes of one session, or of a bad row of the store.
+    // Of `serve`, the status and what is written are those of sessions that follow each other, or of a bad row of the store.
     ensures serves { IfSome (served (command_of words.now)) (λ asked. result ≢ 3 → result ≢ 5 → Ends session_limits asked.0 asked.2 (record { stores = O.stores outside.old; waiting = O.waiting outside.old; kept_back = O.kept_back outside.old; returned = O.returned outside.old; sessions = O.Archive.sessions outside.old; faults = O.faults outside.old; keepers_out = O.keepers_out outside.old; lanes_out = O.lanes_out outside.old }) (record { stores = O.stores outside.new; waiting = O.waiting outside.new; kept_back = O.kept_back outside.new; returned = O.returned outside.new; sessions = O.Archive.sessions outside.new; faults = O.faults outside.new; keepers_out = O.keepers_out outside.new; lanes_out = O.lanes_out outside.new }) (W.written output.old) (W.written output.new) result) }
 
-    // A fault comes only where a count rose in this call, of the outside or of the output, and the line behind what was written names it.
+    // A fault comes only where a count rose in this call, of the outside or of the output, or where a next session did not start, and
+    // the line behind what was written names it.
     ensures serve_fault { IfSome (served (command_of words.now)) (λ asked. result ≡ 3 → ServeFaulted session_limits asked.0 asked.2 (record { stores = O.stores outside.old; waiting = O.waiting outside.old; kept_back = O.kept_back outside.old; returned = O.returned outside.old; sessions = O.Archive.sessions outside.old; faults = O.faults outside.old; keepers_out = O.keepers_out outside.old; lanes_out = O.lanes_out outside.old }) (record { stores = O.stores outside.new; waiting = O.waiting outside.new; kept_back = O.kept_back outside.new; returned = O.returned outside.new; sessions = O.Archive.sessions outside.new; faults = O.faults outside.new; keepers_out = O.keepers_out outside.new; lanes_out = O.lanes_out outside.new }) (record { before = W.faults output.old; now = W.faults output.new }) (W.written output.old) (W.written output.new)) }
 
     // Of `admin`, the status and what is written are what the lines of the input come to over the store's tables, or a bad row of them.

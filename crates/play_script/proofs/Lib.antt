@@ -2,5 +2,5 @@
 pub mod Playing
 -- the first line of a text
 pub mod Lines
--- text APIs that are refused
-pub mod Texts
+-- a test of the elements of a list
+pub mod Unbuilt

@@ -6,10 +6,10 @@ use Rattle.std.proofs.KnownBytes.{Appends-nil, Appends-trans}
 use Rattle.gw_base.specs.Whole.{AppendsFront}
 use Rattle.book_rules.specs.declared.events.Entry.{Entry}
 use Rattle.book_rules.specs.History.{Base}
-use Rattle.play_script.specs.Coding.{lines_of, lines_left}
+use Rattle.play_script.specs.Coding.{lines_left}
 use Rattle.book_rules.specs.declared.events.Limits.{Limits}
 use Rattle.play_session.specs.Sessions.{base_of}
-use Rattle.play_script.specs.Play.{Opening, names_load, OpenedFrontBy, OpenedFront, Output, Turn, before, IsTurn, IsFront, Plays, PlaysFront, GoesOn, GoesOnInFront, SaysFront, status_at}
+use Rattle.play_script.specs.Play.{Opening, names_load, OpenedFrontBy, OpenedFront, Output, Turn, before, IsTurn, IsFront, Plays, PlaysFront, SaysFront, status_at}
 use Rattle.play_script.specs.declared.turns.End.{End}
 
 -- what holds, where an answer is an error

@@ -2,6 +2,8 @@
 pub mod Calls
 -- lines, fields and their coding
 pub mod Coding
+-- the definitions that a script puts
+pub mod Definitions
 -- what a script does, and what it prints
 pub mod Play
 -- the lines that are printed

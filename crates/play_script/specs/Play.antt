@@ -1,9 +1,7 @@
 -- What a script does, and what it prints.
 use Rattle.std.specs.Prelude.{◌≡◌, ◌⊎◌, ℕ, ◌+◌, ◌==◌, ◌||◌, nat_lt, List, [], ◌∷◌, ◌++◌, length, codes, Option, Some, None, Result, Ok, Err, Bool, true, false, if◌then◌else◌}
 use Rattle.std.specs.Io.KnownBytes.{Appends}
-use Rattle.vtl_grammar.specs.Templates.{read_of}
-use Rattle.vtl_grammar.specs.Tree.{Items}
-use Rattle.vtl_grammar.specs.declared.fault.TemplateFault.{TemplateFault}
+use Rattle.api_model.specs.Definition.{document, text}
 use Rattle.gw_base.specs.Feed.{is_listed}
 use Rattle.book_rules.specs.History.{Base}
 use Rattle.book_rules.specs.declared.events.Limits.{Limits}
@@ -17,12 +15,13 @@ use Rattle.play_session.specs.Sessions.{base_of}
 use Rattle.gate_walk.specs.declared.ended.SessionFull.{SessionFull}
 use Rattle.play_script.specs.Calls.{post_bytes, AreOutcomes, BreaksOutcomes, end_of, connection_lines}
 use Rattle.play_script.specs.Coding.{lines_of, is_passed_over}
+use Rattle.play_script.specs.Definitions.{Taken, taken as taken_of}
 use Rattle.play_script.specs.Printed.{line_feed, reply_line, refused_line, full_line}
 use Rattle.play_script.specs.Records.{fails_in, record_in}
 use Rattle.play_script.specs.declared.records.Record.{Record}
-use Rattle.play_script.specs.declared.records.Record.TheVariants.{PutText, Deploy, PutStage, Shutdown, Post, Call}
+use Rattle.play_script.specs.declared.records.Record.TheVariants.{PutText, PutDocument, Deploy, PutStage, Shutdown, Post, Call}
 use Rattle.play_script.specs.declared.records.LineFault.{LineFault}
-use Rattle.play_script.specs.declared.records.LineFault.TheVariants.{BadRecord, Template}
+use Rattle.play_script.specs.declared.records.LineFault.TheVariants.{BadRecord}
 use Rattle.play_script.specs.declared.turns.End.{End}
 use Rattle.play_script.specs.declared.turns.End.TheVariants as ends
 
@@ -45,14 +44,10 @@ commanded base history moment asked =
 abbrev pub refused : ℕ → List Entry → LineFault → Turn
 refused number history fault = record { history = history; text = refused_line number fault; ends = Some ends.Refused }
 
--- the command that puts a text API
-abbrev pub put_api : List ℕ → List ℕ → Command
-put_api api template = command.PutApi api (record { is_text = true; source = template })
-
--- a text API is put where its template is read
-abbrev pub put_text : Base → ℕ → List Entry → ℕ → List ℕ → List ℕ → Result Items TemplateFault → Turn
-put_text base number history moment api template (Ok items) = commanded base history moment (put_api api template)
-put_text base number history moment api template (Err fault) = refused number history (Template fault)
+-- a definition is put where it is taken
+abbrev pub put : Base → ℕ → List Entry → ℕ → List ℕ → Taken → Turn
+put base number history moment api (Ok definition) = commanded base history moment (command.PutApi api definition)
+put base number history moment api (Err fault) = refused number history fault
 
 -- what a connection came to
 abbrev pub talked : Came → Turn
@@ -69,7 +64,8 @@ IsCall base number history moment word bytes outcomes now =
 
 -- what a record does
 abbrev pub Does : Base → ℕ → List Entry → Record → Turn → Type 0
-Does base number history (PutText moment api template) now = now ≡ put_text base number history moment api template (read_of template)
+Does base number history (PutText moment api template) now = now ≡ put base number history moment api (taken_of (text template))
+Does base number history (PutDocument moment api source) now = now ≡ put base number history moment api (taken_of (document source))
 Does base number history (Deploy moment api) now = now ≡ commanded base history moment (command.Deploy api)
 Does base number history (PutStage moment api stage deployment variables) now =
     now ≡ commanded base history moment (command.PutStage api stage deployment (record { pairs = variables }))

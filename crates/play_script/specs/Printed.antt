@@ -2,12 +2,12 @@
 use Rattle.std.specs.Prelude.{ℕ, List, [], ◌∷◌, codes}
 use Rattle.std.specs.Fmt.{decimal}
 use Rattle.std.specs.List.{concat}
-use Rattle.vtl_grammar.specs.Printed.{printed}
+use Rattle.admin_routes.specs.Asked.{fault_line}
 use Rattle.book_rules.specs.Printed.{refusal_name}
 use Rattle.book_rules.specs.declared.replies.Reply.{Reply}
 use Rattle.book_rules.specs.declared.replies.Reply.TheVariants.{Entered, NoStage, Store, Left, Done, Deployed, Refused}
 use Rattle.play_script.specs.declared.records.LineFault.{LineFault}
-use Rattle.play_script.specs.declared.records.LineFault.TheVariants.{BadRecord, NotBuilt, Template}
+use Rattle.play_script.specs.declared.records.LineFault.TheVariants.{BadRecord, NotBuilt, Definition}
 use Rattle.gate_walk.specs.declared.ended.SessionFull.{SessionFull}
 
 abbrev pub line_feed : List ℕ
@@ -27,7 +27,7 @@ reply_line (Left closing) = []
 abbrev pub line_fault : LineFault → List ℕ
 line_fault BadRecord = codes "BadRecord at ~"
 line_fault NotBuilt = codes "NotBuilt at ~"
-line_fault (Template fault) = concat (printed fault ∷ codes " at /text" ∷ [])
+line_fault (Definition fault) = fault_line fault
 
 -- the line that ends a play at a line of this number
 unfoldable pub refused_line : ℕ → LineFault → List ℕ

@@ -1,5 +1,5 @@
 -- The records of a script.
-use Rattle.std.specs.Prelude.{ℕ, ◌==◌, ◌+◌, nat_lt, Bool, not, ◌&&◌, ◌||◌, List, [], ◌∷◌, length, take, drop, position, codes, Option, Some, None, if◌then◌else◌, Result, Ok, Err}
+use Rattle.std.specs.Prelude.{ℕ, Bool, ◌&&◌, ◌||◌, List, [], ◌∷◌, codes, Option, Some, None, if◌then◌else◌, Result, Ok, Err}
 use Rattle.std.specs.Option.{option_and_then, option_map}
 use Rattle.std.specs.Str.{bytes_eq}
 use Rattle.gw_base.specs.Names.{is_name}
@@ -7,7 +7,7 @@ use Rattle.record_fields.specs.Coding.{fields_of, text_of}
 use Rattle.record_fields.specs.Numbers.{number_of}
 use Rattle.record_fields.specs.Pairs.{pairs_of}
 use Rattle.play_script.specs.declared.records.Record.{Record}
-use Rattle.play_script.specs.declared.records.Record.TheVariants.{PutText, Deploy, PutStage, Shutdown, Post, Call}
+use Rattle.play_script.specs.declared.records.Record.TheVariants.{PutText, PutDocument, Deploy, PutStage, Shutdown, Post, Call}
 use Rattle.play_script.specs.declared.records.LineFault.{LineFault}
 use Rattle.play_script.specs.declared.records.LineFault.TheVariants.{BadRecord, NotBuilt}
 
@@ -27,6 +27,13 @@ text_record m a t = do
   api ← text_of a
   template ← text_of t
   Ok (PutText moment api template)
+
+unfoldable pub api_record : List ℕ → List ℕ → List ℕ → Reading
+api_record m a d = do
+  moment ← number_of 64 m
+  api ← text_of a
+  document ← text_of d
+  Ok (PutDocument moment api document)
 
 unfoldable pub deploy_record : List ℕ → List ℕ → Reading
 deploy_record m a = do
@@ -72,6 +79,10 @@ abbrev pub text_fields : List (List ℕ) → Reading
 text_fields (m ∷ a ∷ t ∷ []) = text_record m a t
 text_fields fields = Err BadRecord
 
+abbrev pub api_fields : List (List ℕ) → Reading
+api_fields (m ∷ a ∷ d ∷ []) = api_record m a d
+api_fields fields = Err BadRecord
+
 abbrev pub deploy_fields : List (List ℕ) → Reading
 deploy_fields (m ∷ a ∷ []) = deploy_record m a
 deploy_fields fields = Err BadRecord
@@ -95,7 +106,7 @@ call_fields fields = Err BadRecord
 -- the records that are held back
 unfoldable pub is_held_back : List ℕ → Bool
 is_held_back name =
-    bytes_eq name (codes "api") || bytes_eq name (codes "canary") || bytes_eq name (codes "promote")
+    bytes_eq name (codes "canary") || bytes_eq name (codes "promote")
     || bytes_eq name (codes "key") || bytes_eq name (codes "plan") || bytes_eq name (codes "join")
     || bytes_eq name (codes "grant") || bytes_eq name (codes "flush") || bytes_eq name (codes "usage")
 
@@ -104,6 +115,7 @@ unfoldable pub record_of : List (List ℕ) → Reading
 record_of [] = Err BadRecord
 record_of (name ∷ fields) =
     if bytes_eq name (codes "text") then text_fields fields
+    else if bytes_eq name (codes "api") then api_fields fields
     else if bytes_eq name (codes "deploy") then deploy_fields fields
     else if bytes_eq name (codes "stage") then stage_fields fields
     else if bytes_eq name (codes "shutdown") then shutdown_fields fields

@@ -1,17 +1,17 @@
 // What a record does to the session, and what it prints.
 ghost use Rattle.std.specs.Prelude.{◌≡◌, ◌^◌, ◌<◌, true, Ok, Err, Some, None, IfOk, MatchResult};
-ghost use Rattle.vtl_grammar.specs.Templates.{read_of};
 ghost use Rattle.play_script.specs.Printed.{refused_line as refused_line_of};
-ghost use Rattle.play_script.specs.Play.{commanded as commanded_of, put_text as put_text_of, IsCall, Does, IsTurn};
+ghost use Rattle.play_script.specs.Play.{commanded as commanded_of, put as put_of, IsCall, Does, IsTurn};
 
 use crate::connections::{post_bytes, talk};
+use crate::definitions::{take_document, take_text};
 use crate::fields::is_passed_over;
 use crate::outcomes::are_outcomes;
 use crate::printed::{full_line, refused_line, reply_line};
 use crate::reading::record_in;
 use crate::records::{LineFault, Record};
 use crate::turns::{End, Said};
-use api_model::{Api, ApiCause, ApiFault};
+use api_model::Api;
 use book_rules::{Command, Event};
 use call_facts::Vars;
 use gw_base::{Bytes, Memory, Seq, Shared, Text};
@@ -53,31 +53,25 @@ pub fn refuse(alloc: Global, number: u64, fault: LineFault) -> Result<Said, Memo
     })
 }
 
-// Puts a text API, where its template is read.
-fn put_text<R: Wait>(
+// Puts a definition, where it is taken.
+fn put<R: Wait>(
     session: &mut Session<'_, R>,
     alloc: Global,
     number: u64,
     moment: u64,
     api: Text,
-    template: &str,
+    taken: Result<Api, LineFault>,
 ) -> Result<Said, Memory>
-    ensures does { IfOk result (λ said. put_text_of session.old.base number session.old.history moment api template.now (read_of template.now)
+    ensures does { IfOk result (λ said. put_of session.old.base number session.old.history moment api taken
         ≡ record { history = session.new.history; text = said.text; ends = said.ends }) }
     ensures base { session.new.base ≡ session.old.base }
 {
-    match Api::text(alloc, template) {
+    match taken {
         Ok(definition) => {
             let definition = Shared::new(alloc, definition)?;
             command(session, alloc, moment, Command::PutApi { api, definition })
         }
-        Err(
-            ApiFault {
-                cause: ApiCause::Template(fault),
-                ..
-            },
-        ) => refuse(alloc, number, LineFault::Template(fault)),
-        Err(_) => Err(Memory),
+        Err(fault) => refuse(alloc, number, fault),
     }
 }
 
@@ -139,7 +133,18 @@ fn carry_out<R: Wait>(
             moment,
             api,
             template,
-        } => put_text(session, alloc, number, moment, api, template.as_str()),
+        } => {
+            let taken = take_text(alloc, template.as_str())?;
+            put(session, alloc, number, moment, api, taken)
+        }
+        Record::PutDocument {
+            moment,
+            api,
+            document,
+        } => {
+            let taken = take_document(alloc, document.as_str())?;
+            put(session, alloc, number, moment, api, taken)
+        }
         Record::Deploy { moment, api } => command(session, alloc, moment, Command::Deploy { api }),
         Record::PutStage {
             moment,

@@ -18,6 +18,7 @@
 //! | `post 0 0 hello v2 Ann` | the 403 answer whose cause is `UNKNOWN_STAGE` |
 //! | `keepfails 1`, and then `text 0 a x` | `store`: the keeper's call 1 fails |
 //! | `keepfails 0` alone | nothing: the load fails, and `play_within` answers `Err(PlayStop::Keeper)` |
+//! | `api 0 pets {"bogus":1}` | `refused line 1 Unknown(bogus) at /bogus`, and the play ends with status 1 |
 //! | `bogus 1` | `refused line 1 BadRecord at ~`, and the play ends with status 1 |
 //! | `key 0 k v on` | `refused line 1 NotBuilt at ~`, and the play ends with status 1 |
 //! | `stage 0 hello v1 1 env=x` | `done`, and `$stageVariables.env` is `x` in the answers of the stage |
@@ -26,13 +27,15 @@
 //! or a front of it where a write is refused or memory is wanting; where the script's `keepfails` names the load, nothing is, and
 //! just that is told (`opening_of`, `names_load`); `specs/Coding.antt` says which lines it has,
 //! `specs/Records.antt` which records they are, and `specs/Printed.antt` and `specs/Calls.antt` what is printed.
-//! [`join`] puts parts of a line together. Fields are coded and read by `record_fields`. The lines of a script, their records and
-//! what is printed of a command stand apart ([`first_line`], [`record_in`], [`reply_line`], [`refuse`]): the command `admin` takes
+//! A definition is put where it is stated and all of it is built, which says `taken` of `specs/Definitions.antt`: a document with a
+//! method that asks for a key or has an authorizer is `NotBuilt` ([`needs_unbuilt`] is exactly that). [`join`] puts parts of a line together. Fields are coded and read by `record_fields`. The lines of a script, their records and
+//! what is printed of a command stand apart ([`first_line`], [`record_in`], [`take_document`], [`take_text`], [`reply_line`], [`refuse`]): the command `admin` takes
 //! them too.
 #![tactic(auto)]
 
 mod calls;
 mod connections;
+mod definitions;
 mod fields;
 mod joining;
 mod opening;
@@ -45,6 +48,7 @@ mod stops;
 mod turns;
 
 pub use calls::refuse;
+pub use definitions::{needs_unbuilt, take_document, take_text};
 pub use fields::{first_line, is_passed_over};
 pub use joining::join;
 pub use play::play_within;

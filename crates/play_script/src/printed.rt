@@ -1,12 +1,15 @@
 // The lines that are printed.
 ghost use Rattle.std.specs.Prelude.{◌≡◌, ◌<◌, ◌^◌, IfOk};
+ghost use Rattle.admin_routes.specs.Asked.{fault_line as fault_line_of};
 ghost use Rattle.play_script.specs.Printed.{reply_line as reply_line_of, line_fault as line_fault_of, refused_line as refused_line_of, full_line as full_line_of};
 
 use crate::joining::join;
 use crate::records::LineFault;
+use api_model::ApiFault;
 use book_rules::Reply;
 use gw_base::{Memory, Text};
 use play_session::SessionFull;
+use record_fields::{encode, encode_field};
 use std::alloc::Global;
 
 /// The line of a command's reply.
@@ -28,16 +31,24 @@ pub fn reply_line(alloc: Global, reply: &Reply) -> Result<Text, Memory>
     }
 }
 
+// A definition's fault and its place.
+#[tactic(auto, unfolding(admin_routes::specs::Asked::fault_line))]
+fn fault_line(alloc: Global, fault: &ApiFault) -> Result<Text, Memory>
+    ensures { IfOk result (λ text. text ≡ fault_line_of fault.now) }
+{
+    let cause = fault.cause.to_string(alloc)?;
+    let cause = encode(alloc, cause.as_str().as_bytes())?;
+    let place = encode_field(alloc, fault.place.as_str().as_bytes())?;
+    join(alloc, &[cause.as_str(), " at ", place.as_str()])
+}
+
 fn line_fault(alloc: Global, fault: LineFault) -> Result<Text, Memory>
     ensures { IfOk result (λ text. text ≡ line_fault_of fault) }
 {
     match fault {
         LineFault::BadRecord => Ok(Text::of(String::from_str(alloc, "BadRecord at ~")?)),
         LineFault::NotBuilt => Ok(Text::of(String::from_str(alloc, "NotBuilt at ~")?)),
-        LineFault::Template(fault) => {
-            let fault = fault.to_string(alloc)?;
-            join(alloc, &[fault.as_str(), " at /text"])
-        }
+        LineFault::Definition(fault) => fault_line(alloc, &fault),
     }
 }
 

@@ -1,6 +1,6 @@
 // The record of a line.
 ghost use Rattle.std.specs.Prelude.{◌≡◌, ◌≢◌, Ok, Err, IfOk, option_map};
-ghost use Rattle.play_script.specs.Records.{called as called_of, text_record as text_record_of, deploy_record as deploy_record_of, stage_record as stage_record_of, shutdown_record as shutdown_record_of, post_record as post_record_of, call_record as call_record_of, call_fields as call_fields_of, text_fields as text_fields_of, deploy_fields as deploy_fields_of, stage_fields as stage_fields_of, shutdown_fields as shutdown_fields_of, post_fields as post_fields_of, is_held_back as is_held_back_of, record_of as record_of_fields, record_in as record_in_line, numbers_of, keepfails_fields as keepfails_fields_of, keepfails_of as keepfails_of_fields, fails_in as fails_in_line};
+ghost use Rattle.play_script.specs.Records.{called as called_of, text_record as text_record_of, api_record as api_record_of, deploy_record as deploy_record_of, stage_record as stage_record_of, shutdown_record as shutdown_record_of, post_record as post_record_of, call_record as call_record_of, call_fields as call_fields_of, text_fields as text_fields_of, api_fields as api_fields_of, deploy_fields as deploy_fields_of, stage_fields as stage_fields_of, shutdown_fields as shutdown_fields_of, post_fields as post_fields_of, is_held_back as is_held_back_of, record_of as record_of_fields, record_in as record_in_line, numbers_of, keepfails_fields as keepfails_fields_of, keepfails_of as keepfails_of_fields, fails_in as fails_in_line};
 
 use crate::records::{LineFault, Record};
 use gw_base::{Bytes, Memory, Seq, is_name};
@@ -27,6 +27,26 @@ fn text_record(alloc: Global, moment: &[u8], api: &[u8], template: &[u8]) -> Res
         moment,
         api,
         template,
+    }))
+}
+
+#[tactic(auto, unfolding(crate::specs::Records::api_record))]
+fn api_record(alloc: Global, moment: &[u8], api: &[u8], document: &[u8]) -> Result<Reading, Memory>
+    ensures { IfOk result (λ r. r ≡ api_record_of moment.now api.now document.now) }
+{
+    let Some(moment) = number(moment) else {
+        return Ok(Err(LineFault::BadRecord));
+    };
+    let Some(api) = text_of(alloc, api)? else {
+        return Ok(Err(LineFault::BadRecord));
+    };
+    let Some(document) = text_of(alloc, document)? else {
+        return Ok(Err(LineFault::BadRecord));
+    };
+    Ok(Ok(Record::PutDocument {
+        moment,
+        api,
+        document,
     }))
 }
 
@@ -180,6 +200,15 @@ fn text_fields(alloc: Global, fields: &[Bytes]) -> Result<Reading, Memory>
     }
 }
 
+fn api_fields(alloc: Global, fields: &[Bytes]) -> Result<Reading, Memory>
+    ensures { IfOk result (λ r. r ≡ api_fields_of fields.now) }
+{
+    match fields {
+        [m, a, d] => api_record(alloc, m.as_slice(), a.as_slice(), d.as_slice()),
+        _ => Ok(Err(LineFault::BadRecord)),
+    }
+}
+
 fn deploy_fields(alloc: Global, fields: &[Bytes]) -> Result<Reading, Memory>
     ensures { IfOk result (λ r. r ≡ deploy_fields_of fields.now) }
 {
@@ -235,8 +264,7 @@ fn post_fields(alloc: Global, fields: &[Bytes]) -> Result<Reading, Memory>
 fn is_held_back(name: &[u8]) -> bool
     ensures { result ≡ is_held_back_of name.now }
 {
-    name == b"api".as_slice()
-        || name == b"canary".as_slice()
+    name == b"canary".as_slice()
         || name == b"promote".as_slice()
         || name == b"key".as_slice()
         || name == b"plan".as_slice()
@@ -256,6 +284,9 @@ fn record_of(alloc: Global, fields: &[Bytes]) -> Result<Reading, Memory>
     let name = name.as_slice();
     if name == b"text".as_slice() {
         return text_fields(alloc, rest);
+    }
+    if name == b"api".as_slice() {
+        return api_fields(alloc, rest);
     }
     if name == b"deploy".as_slice() {
         return deploy_fields(alloc, rest);

@@ -1,5 +1,5 @@
+use api_model::ApiFault;
 use gw_base::{Bytes, Seq, Text};
-use vtl_grammar::TemplateFault;
 
 /// A record of a script, read from its line.
 #[derive(Drop)]
@@ -9,6 +9,12 @@ pub enum Record {
         moment: u64,
         api: Text,
         template: Text,
+    },
+    /// `api M API DOC`: makes an API of a definition document, or gives an API this one.
+    PutDocument {
+        moment: u64,
+        api: Text,
+        document: Text,
     },
     /// `deploy M API`: takes a snapshot of an API.
     Deploy {
@@ -46,12 +52,12 @@ pub enum Record {
 }
 
 /// Why a line of a script ends the play.
-#[derive(Clone, Copy, Debug, PartialEq, Eq)]
+#[derive(Drop)]
 pub enum LineFault {
     /// The line breaks the form of its record.
     BadRecord,
-    /// The record, or a field of it, belongs to a part that is not built.
+    /// The record, or a part of its definition, is not built.
     NotBuilt,
-    /// The template is not read.
-    Template(TemplateFault),
+    /// The definition, which a template is too, is not stated.
+    Definition(ApiFault),
 }

@@ -57,6 +57,23 @@ const ROWS: &'static [Row] = &[
         ..DONE
     },
     Row {
+        lines: "api 0 pets {\"version\":1,\"resources\":{\"/\":{\"GET\":{\"integration\":{\"type\":\"MOCK\"}}}}}\ndeploy 0 pets\n",
+        said: "done\ndeployed 1\n",
+        ..DONE
+    },
+    Row {
+        lines: "deploy 0 hello\napi 0 pets {\"bogus\":1}\ndeploy 0 hello\n",
+        said: "deployed 2\nrefused line 2 Unknown(bogus) at /bogus\n",
+        status: 1,
+        ..DONE
+    },
+    Row {
+        lines: "api 0 pets {\"version\":1,\"resources\":{\"/\":{\"GET\":{\"apiKeyRequired\":true,\"integration\":{\"type\":\"MOCK\"}}}}}\ndeploy 0 hello\n",
+        said: "refused line 1 NotBuilt at ~\n",
+        status: 1,
+        ..DONE
+    },
+    Row {
         plan: Plan {
             keeps: &[1],
             ..PLAIN

@@ -1,0 +1,91 @@
+// Scripts that put documents.
+use crate::scripts::told;
+use std::test::Fail;
+
+/// What stands in a script, what it prints, and its status.
+const ROWS: [(&str, &str, u8); 19] = [
+    (
+        "api 0 pets {\"version\":1,%20\"resources\":{\"/cats\":{\"GET\":{\"integration\":{\"type\":\"MOCK\"}}}}}\ndeploy 0 pets\nstage 0 pets v1 1\ncall 0 0 GET%20/pets/v1/dogs%20HTTP/1.1%0D%0Ahost:%20a%0D%0A%0D%0A\n",
+        "done\ndeployed 1\ndone\nanswer HTTP/1.1%20403%20Forbidden%0D%0Acontent-type:%20application/json%0D%0Ax-gateway-cause:%20MISSING_AUTHENTICATION_TOKEN%0D%0Acontent-length:%2042%0D%0A%0D%0A{\"message\":\"Missing%20Authentication%20Token\"}\nended Closed\n",
+        0,
+    ),
+    (
+        "api 0 a {\"version\":1,\"resources\":{}}\ntext 0 a x\napi 0 a {\"version\":1,\"resources\":{}}\ndeploy 0 a\n",
+        "done\ndone\ndone\ndeployed 1\n",
+        0,
+    ),
+    (
+        "api 0 a.b {\"version\":1,\"resources\":{}}\ndeploy 0 a\n",
+        "refused BadName\nrefused NoApi\n",
+        0,
+    ),
+    (
+        "keepfails 1\napi 0 a {\"version\":1,\"resources\":{}}\ndeploy 0 a\n",
+        "store\nrefused NoApi\n",
+        0,
+    ),
+    ("api 0 a\n", "refused line 1 BadRecord at ~\n", 1),
+    ("api 0 a {} {}\n", "refused line 1 BadRecord at ~\n", 1),
+    ("api x a {}\n", "refused line 1 BadRecord at ~\n", 1),
+    ("api 0 a %FF\n", "refused line 1 BadRecord at ~\n", 1),
+    ("api 0 a ~\n", "refused line 1 Syntax(0) at ~\n", 1),
+    ("api 0 a {}\n", "refused line 1 Missing(version) at ~\n", 1),
+    (
+        "deploy 0 a\n\napi 0 a.b {\"version\":1}\ndeploy 0 a\n",
+        "refused NoApi\nrefused line 3 Missing(resources) at ~\n",
+        1,
+    ),
+    (
+        "api 0 a {\"a%20b\":1}\n",
+        "refused line 1 Unknown(a%20b) at /a%20b\n",
+        1,
+    ),
+    (
+        "api 0 a {\"version\":1,\"resources\":{\"/a\":{\"GET\":{\"integration\":{\"type\":\"MOCK\",\"templates\":{\"application/json\":\"${x\"}}}}}}\n",
+        "refused line 1 Unclosed(0) at /resources/~1a/GET/integration/templates/application~1json\n",
+        1,
+    ),
+    // Methods with a key or an authorizer are not built; an authorizer that none has, and a key that none asks for, are no matter.
+    (
+        "api 0 a {\"version\":1,\"resources\":{\"/a\":{\"GET\":{\"apiKeyRequired\":false,\"integration\":{\"type\":\"MOCK\"}}}}}\n",
+        "done\n",
+        0,
+    ),
+    (
+        "api 0 a {\"version\":1,\"authorizers\":{\"t\":{\"header\":\"h\",\"uri\":\"http://localhost:1/\"}},\"resources\":{\"/a\":{\"GET\":{\"integration\":{\"type\":\"MOCK\"}}}}}\n",
+        "done\n",
+        0,
+    ),
+    (
+        "deploy 0 a\napi 0 a {\"version\":1,\"resources\":{\"/a\":{\"GET\":{\"apiKeyRequired\":true,\"integration\":{\"type\":\"MOCK\"}}}}}\ndeploy 0 a\n",
+        "refused NoApi\nrefused line 2 NotBuilt at ~\n",
+        1,
+    ),
+    (
+        "api 0 a {\"version\":1,\"authorizers\":{\"t\":{\"header\":\"h\",\"uri\":\"http://localhost:1/\"}},\"resources\":{\"/a\":{\"GET\":{\"authorizer\":\"t\",\"integration\":{\"type\":\"MOCK\"}}}}}\n",
+        "refused line 1 NotBuilt at ~\n",
+        1,
+    ),
+    (
+        "api 0 a {\"version\":1,\"resources\":{\"/a\":{\"GET\":{\"integration\":{\"type\":\"MOCK\"}},\"PUT\":{\"integration\":{\"type\":\"MOCK\"}}},\"/b\":{\"ANY\":{\"apiKeyRequired\":true,\"integration\":{\"type\":\"MOCK\"}}}}}\n",
+        "refused line 1 NotBuilt at ~\n",
+        1,
+    ),
+    // A fault comes before what is not built.
+    (
+        "api 0 a {\"version\":1,\"resources\":{\"/a\":{\"GET\":{\"apiKeyRequired\":true,\"authorizer\":\"t\",\"integration\":{\"type\":\"MOCK\"}}}}}\n",
+        "refused line 1 NoSuch(t) at /resources/~1a/GET/authorizer\n",
+        1,
+    ),
+];
+
+#[test]
+fn documents_are_put_by_scripts(rt: HostRuntime) -> Result<(), Fail> {
+    let alloc = rt.alloc();
+    for (script, said, wanted) in &ROWS {
+        let (status, output) = told(&rt, alloc, script)?;
+        assert_eq!(rt; output.bytes(), said.as_bytes(), "at {}", script);
+        assert_eq!(rt; status, *wanted, "at {}", script);
+    }
+    Ok(())
+}

@@ -1,11 +1,10 @@
 -- From the opening of a store to its keeper's return.
-use Rattle.std.proofs.Common.{◌≡◌, ◌⊎◌, inl, inr, ℕ, ◌+◌, ◌-◌, ◌^◌, ◌≤◌, min, List, [], ◌∷◌, length, Option, Result, Ok, Err, IfOk, OnErr, IsErrOf, ap, sym, ◌∙◌, subst, refl, arith}
+use Rattle.std.proofs.Common.{◌≡◌, ◌⊎◌, inl, inr, ℕ, ◌+◌, ◌-◌, ◌^◌, ◌≤◌, min, List, [], length, Option, Result, Ok, Err, IfOk, ap, ◌∙◌, subst, arith}
 use Rattle.std.specs.Io.KnownBytes.{Appends}
 use Rattle.backend_core.specs.Exchanges.{gained}
 use Rattle.book_rules.specs.History.{Base, not_kept}
 use Rattle.book_rules.specs.declared.events.Entry.{Entry}
 use Rattle.book_rules.specs.declared.events.Limits.{Limits}
-use Rattle.gw_base.specs.Outside.{Rose}
 use Rattle.gw_base.specs.Whole.{AppendsFront}
 use Rattle.outside_core.specs.Stores.{stored}
 use Rattle.serve_command.specs.Opening.{Opened, NotOpened, IfBadStore}

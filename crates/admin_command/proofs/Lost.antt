@@ -1,9 +1,9 @@
 -- The places of the changes that were lost.
-use Rattle.std.proofs.Common.{◌≡◌, ℕ, zero, suc, ◌+◌, ◌≤◌, Bool, true, false, List, [], ◌∷◌, ◌++◌, length, All, ap, refl, sym, ◌∙◌, subst, arith, if◌then◌else◌}
+use Rattle.std.proofs.Common.{◌≡◌, ℕ, ◌+◌, ◌≤◌, Bool, true, false, List, [], ◌∷◌, ◌++◌, length, ap, refl, sym, ◌∙◌, arith, if◌then◌else◌}
 use Rattle.std.proofs.lemmas.List.Sums.{sum_by-cons}
 use Rattle.book_rules.specs.History.{not_kept}
 use Rattle.book_rules.specs.declared.events.Entry.{Entry}
-use Rattle.admin_command.specs.Administering.{lost_from, lost_in}
+use Rattle.admin_command.specs.Administering.{lost_from}
 
 more_lost : (place : ℕ) (entry : Entry) (entries : List Entry) (kept : Bool) → entry.kept ≡ kept → length (lost_from (place + 1) entries) ≡ not_kept entries
     → length (if kept then lost_from (place + 1) entries else place ∷ lost_from (place + 1) entries) ≡ not_kept (entry ∷ entries)

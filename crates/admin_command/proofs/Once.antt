@@ -1,15 +1,15 @@
 -- Lines come to one thing, where the same changes are lost.
-use Rattle.std.proofs.Common.{◌≡◌, ◌⊎◌, inl, inr, ℕ, ◌+◌, Bool, true, false, List, [], ◌∷◌, ◌++◌, Option, Some, None, Result, Ok, Err, refl, sym, ap, ◌∙◌, append_assoc, append-nil, subst}
-use Rattle.book_rules.specs.History.{Base, Answers, is_full, reply}
+use Rattle.std.proofs.Common.{◌≡◌, ◌⊎◌, inl, inr, ℕ, ◌+◌, Bool, true, false, List, [], ◌∷◌, ◌++◌, Option, Some, None, Ok, Err, sym, ap, ◌∙◌, append_assoc, append-nil, subst}
+use Rattle.book_rules.specs.History.{Base, is_full, reply}
 use Rattle.book_rules.specs.declared.events.Entry.{Entry}
 use Rattle.book_rules.specs.declared.events.Event.{Event}
 use Rattle.book_rules.specs.declared.replies.Reply.{Reply}
 use Rattle.play_script.specs.Coding.{is_passed_over}
-use Rattle.play_script.specs.Play.{Turn, status_at}
+use Rattle.play_script.specs.Play.{Turn}
 use Rattle.play_script.specs.Printed.{reply_line}
 use Rattle.play_script.specs.declared.turns.End.{End}
 use Rattle.admin_command.specs.Lines.{Asked, asked_in}
-use Rattle.admin_command.specs.Administering.{Administers, Came, before, DoesOrNot, GoesOn, IsFull, IsTaken, IsTurn, PassesOrDoes, lost_in}
+use Rattle.admin_command.specs.Administering.{Administers, Came, before, DoesOrNot, GoesOn, IsFull, IsTaken, PassesOrDoes, lost_in}
 use Rattle.admin_command.specs.Laws.{LinesComeToOneThing}
 use Rattle.admin_command.proofs.Lost.{kept_alike}
 

@@ -1,4 +1,4 @@
-// Scripts that put documents.
+// Scripts that put documents, and their calls.
 use crate::scripts::told;
 use std::test::Fail;
 
@@ -86,6 +86,77 @@ fn documents_are_put_by_scripts(rt: HostRuntime) -> Result<(), Fail> {
         let (status, output) = told(&rt, alloc, script)?;
         assert_eq!(rt; output.bytes(), said.as_bytes(), "at {}", script);
         assert_eq!(rt; status, *wanted, "at {}", script);
+    }
+    Ok(())
+}
+
+/// An API with a literal, a single and a greedy resource below `/a`, and a method with a model.
+const CHECKED: &str =
+    "api 0 t {\"version\":1,\"models\":{\"order\":{\"type\":\"object\",\"required\":[\"qty\"]}},\"validators\":{\"all\":{\"body\":true,\"parameters\":true}},\"resources\":{\"/a/b\":{\"GET\":{\"validator\":\"all\",\"parameters\":{\"method.request.header.x-key\":true},\"integration\":{\"type\":\"MOCK\"}}},\"/a/{x}\":{\"GET\":{\"validator\":\"all\",\"parameters\":{\"method.request.header.x-key\":true},\"integration\":{\"type\":\"MOCK\"}}},\"/a/{p+}\":{\"GET\":{\"validator\":\"all\",\"parameters\":{\"method.request.header.x-key\":true},\"integration\":{\"type\":\"MOCK\"}}},\"/orders\":{\"POST\":{\"validator\":\"all\",\"parameters\":{\"method.request.querystring.shop\":true,\"method.request.header.x-key\":true},\"models\":{\"application/json\":\"order\"},\"integration\":{\"type\":\"MOCK\"}}}},\"gatewayResponses\":{\"BAD_REQUEST_PARAMETERS\":{\"headers\":{\"x-resource\":\"context.resourcePath\"}}}}\ndeploy 0 t\nstage 0 t v1 1\n";
+
+/// A call of it, and what is printed of the call.
+const CALLS: [(&str, &str); 12] = [
+    (
+        "call 0 0 GET%20/t/v1/a/b%20HTTP/1.1%0D%0Ahost:%20a%0D%0A%0D%0A\n",
+        "answer HTTP/1.1%20400%20Bad%20Request%0D%0Acontent-type:%20application/json%0D%0Ax-resource:%20/a/b%0D%0Ax-gateway-cause:%20BAD_REQUEST_PARAMETERS%0D%0Acontent-length:%2058%0D%0A%0D%0A{\"message\":\"Missing%20required%20request%20parameters:%20[x-key]\"}\nended Closed\n",
+    ),
+    (
+        "call 0 0 GET%20/t/v1/a/c%20HTTP/1.1%0D%0Ahost:%20a%0D%0A%0D%0A\n",
+        "answer HTTP/1.1%20400%20Bad%20Request%0D%0Acontent-type:%20application/json%0D%0Ax-resource:%20/a/{x}%0D%0Ax-gateway-cause:%20BAD_REQUEST_PARAMETERS%0D%0Acontent-length:%2058%0D%0A%0D%0A{\"message\":\"Missing%20required%20request%20parameters:%20[x-key]\"}\nended Closed\n",
+    ),
+    (
+        "call 0 0 GET%20/t/v1/a/c/d%20HTTP/1.1%0D%0Ahost:%20a%0D%0A%0D%0A\n",
+        "answer HTTP/1.1%20400%20Bad%20Request%0D%0Acontent-type:%20application/json%0D%0Ax-resource:%20/a/{p+}%0D%0Ax-gateway-cause:%20BAD_REQUEST_PARAMETERS%0D%0Acontent-length:%2058%0D%0A%0D%0A{\"message\":\"Missing%20required%20request%20parameters:%20[x-key]\"}\nended Closed\n",
+    ),
+    (
+        "call 0 0 GET%20/t/v1/a/b/z%20HTTP/1.1%0D%0Ahost:%20a%0D%0A%0D%0A\n",
+        "answer HTTP/1.1%20400%20Bad%20Request%0D%0Acontent-type:%20application/json%0D%0Ax-resource:%20/a/{p+}%0D%0Ax-gateway-cause:%20BAD_REQUEST_PARAMETERS%0D%0Acontent-length:%2058%0D%0A%0D%0A{\"message\":\"Missing%20required%20request%20parameters:%20[x-key]\"}\nended Closed\n",
+    ),
+    (
+        "call 0 0 GET%20/t/v1/a%20HTTP/1.1%0D%0Ahost:%20a%0D%0A%0D%0A\n",
+        "answer HTTP/1.1%20403%20Forbidden%0D%0Acontent-type:%20application/json%0D%0Ax-gateway-cause:%20MISSING_AUTHENTICATION_TOKEN%0D%0Acontent-length:%2042%0D%0A%0D%0A{\"message\":\"Missing%20Authentication%20Token\"}\nended Closed\n",
+    ),
+    (
+        "call 0 0 PUT%20/t/v1/a/b%20HTTP/1.1%0D%0Ahost:%20a%0D%0A%0D%0A\n",
+        "answer HTTP/1.1%20403%20Forbidden%0D%0Acontent-type:%20application/json%0D%0Ax-gateway-cause:%20MISSING_AUTHENTICATION_TOKEN%0D%0Acontent-length:%2042%0D%0A%0D%0A{\"message\":\"Missing%20Authentication%20Token\"}\nended Closed\n",
+    ),
+    (
+        "call 0 0 GET%20/t/v1/a/b%20HTTP/1.1%0D%0Ahost:%20a%0D%0Ax-key:%201%0D%0A%0D%0A\n",
+        "answer HTTP/1.1%20500%20Internal%20Server%20Error%0D%0Acontent-type:%20application/json%0D%0Ax-gateway-cause:%20API_CONFIGURATION_ERROR%0D%0Acontent-length:%2035%0D%0A%0D%0A{\"message\":\"Internal%20server%20error\"}\nended Closed\n",
+    ),
+    (
+        "call 0 0 POST%20/t/v1/orders%20HTTP/1.1%0D%0Ahost:%20a%0D%0Acontent-length:%201%0D%0A%0D%0A{\n",
+        "answer HTTP/1.1%20400%20Bad%20Request%0D%0Acontent-type:%20application/json%0D%0Ax-resource:%20/orders%0D%0Ax-gateway-cause:%20BAD_REQUEST_PARAMETERS%0D%0Acontent-length:%2064%0D%0A%0D%0A{\"message\":\"Missing%20required%20request%20parameters:%20[shop,%20x-key]\"}\nended Closed\n",
+    ),
+    (
+        "call 0 0 POST%20/t/v1/orders?shop=%2520%20HTTP/1.1%0D%0Ahost:%20a%0D%0Ax-key:%201%0D%0Acontent-length:%209%0D%0A%0D%0A{\"qty\":1}\n",
+        "answer HTTP/1.1%20400%20Bad%20Request%0D%0Acontent-type:%20application/json%0D%0Ax-resource:%20/orders%0D%0Ax-gateway-cause:%20BAD_REQUEST_PARAMETERS%0D%0Acontent-length:%2057%0D%0A%0D%0A{\"message\":\"Missing%20required%20request%20parameters:%20[shop]\"}\nended Closed\n",
+    ),
+    (
+        "call 0 0 POST%20/t/v1/orders?shop=1%20HTTP/1.1%0D%0Ahost:%20a%0D%0Ax-key:%201%0D%0Acontent-length:%201%0D%0A%0D%0A{\n",
+        "answer HTTP/1.1%20400%20Bad%20Request%0D%0Acontent-type:%20application/json%0D%0Ax-gateway-cause:%20BAD_REQUEST_BODY%0D%0Acontent-length:%2034%0D%0A%0D%0A{\"message\":\"Invalid%20request%20body\"}\nended Closed\n",
+    ),
+    (
+        "call 0 0 POST%20/t/v1/orders?shop=1%20HTTP/1.1%0D%0Ahost:%20a%0D%0Ax-key:%201%0D%0Acontent-length:%209%0D%0A%0D%0A{\"qtx\":1}\n",
+        "answer HTTP/1.1%20400%20Bad%20Request%0D%0Acontent-type:%20application/json%0D%0Ax-gateway-cause:%20BAD_REQUEST_BODY%0D%0Acontent-length:%2034%0D%0A%0D%0A{\"message\":\"Invalid%20request%20body\"}\nended Closed\n",
+    ),
+    (
+        "call 0 0 POST%20/t/v1/orders?shop=1%20HTTP/1.1%0D%0Ahost:%20a%0D%0Ax-key:%201%0D%0Acontent-length:%209%0D%0A%0D%0A{\"qty\":1}\n",
+        "answer HTTP/1.1%20500%20Internal%20Server%20Error%0D%0Acontent-type:%20application/json%0D%0Ax-gateway-cause:%20API_CONFIGURATION_ERROR%0D%0Acontent-length:%2035%0D%0A%0D%0A{\"message\":\"Internal%20server%20error\"}\nended Closed\n",
+    ),
+];
+
+#[test]
+fn calls_of_a_document_are_checked(rt: HostRuntime) -> Result<(), Fail> {
+    let alloc = rt.alloc();
+    for (call, said) in &CALLS {
+        let mut script = String::from_str(alloc, CHECKED)?;
+        script.push_str(call)?;
+        let mut wanted = String::from_str(alloc, "done\ndeployed 1\ndone\n")?;
+        wanted.push_str(said)?;
+        let (status, output) = told(&rt, alloc, script.as_str())?;
+        assert_eq!(rt; output.bytes(), wanted.as_bytes(), "at {}", call);
+        assert_eq!(rt; status, 0, "at {}", call);
     }
     Ok(())
 }

@@ -5,7 +5,7 @@
 //! |---|---|
 //! | `scripts` | every kind of line, pieces of any size, each read and each write failing once, a full session |
 //! | `calls` | connections with several messages, and outcomes |
-//! | `documents` | scripts that put documents: what they print, and where one is refused |
+//! | `documents` | scripts that put documents: what they print, and where one is refused; which resource a path finds, and what a call is checked by |
 //! | `checks` | documents with the lines that `check` prints |
 //! | `renders` | the command `render`: its files, limits and faults |
 //! | `roots` | the values below the roots, as the documents show them |

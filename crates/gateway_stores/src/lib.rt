@@ -15,9 +15,11 @@
 //! | a store of another version | `BadStore(Meta, 0)` |
 //!
 //! What is promised: that nothing is staged in a keeper that was opened and no call of it has failed; that want of memory, a bad
-//! row and a fault are told as `keeper_sqlite` tells them; and that a keeper tells exactly whether a load of it has failed.
+//! row and a fault are told as `keeper_sqlite` tells them; and that a keeper tells exactly whether a load of it has failed. As a
+//! law ([`laws`]), a keeper may go to another thread.
 #![tactic(auto)]
 
+pub mod laws;
 mod stores;
 
 pub use stores::{FileStores, start_of};

@@ -1,0 +1,5 @@
+use Rattle.gateway_stores.proofs.Sent.{keeper_send}
+use Rattle.gateway.proofs.main.Goals as goal
+
+pub run-status-requires-send-O-Keep : goal.run-status-requires-send-O-Keep
+run-status-requires-send-O-Keep g c κs within = keeper_send

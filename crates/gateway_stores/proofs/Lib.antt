@@ -1,0 +1,2 @@
+-- what may cross threads
+pub mod Sent

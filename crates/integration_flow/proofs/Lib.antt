@@ -1,0 +1,2 @@
+-- the rule that is chosen
+mod Chosen

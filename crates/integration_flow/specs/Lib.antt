@@ -12,3 +12,5 @@ pub mod Headers
 pub mod Stopping
 -- what a client is answered
 pub mod Answers
+-- what an integration without a backend answers
+pub mod Mocking

@@ -48,8 +48,9 @@ fn first_default(rules: &[ResponseRule]) -> Option<&ResponseRule>
     None
 }
 
+/// The rule of these that a status selects.
 #[tactic(auto, unfolding(crate::specs::Choosing::chosen))]
-fn choose(rules: &[ResponseRule], status: u16) -> Option<&ResponseRule>
+pub fn choose(rules: &[ResponseRule], status: u16) -> Option<&ResponseRule>
     requires { (100 ≤ status) × (status < 1000) }
     ensures { option_map (λ r. r.now) result ≡ chosen rules.now status }
 {

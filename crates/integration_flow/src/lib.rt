@@ -5,6 +5,7 @@ mod answering;
 mod choosing;
 mod headers;
 pub mod laws;
+mod mocking;
 mod rendering;
 mod replies;
 mod statuses;
@@ -14,4 +15,5 @@ mod written;
 
 pub use answering::client_answer;
 pub use choosing::choose_response;
+pub use mocking::mock_answer;
 pub use stops::FlowStop;

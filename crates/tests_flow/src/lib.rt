@@ -18,6 +18,8 @@
 #[cfg(test)]
 mod calls;
 #[cfg(test)]
+mod mocks;
+#[cfg(test)]
 mod replies;
 #[cfg(test)]
 mod told;

@@ -42,13 +42,7 @@ const CHOSEN: [Replied; 6] = [
         "",
         "202\ncontent-type: application/json\n",
     ),
-    (
-        r#"[{"pattern":"2","status":201}]"#,
-        200,
-        &[],
-        "",
-        "no rule",
-    ),
+    (r#"[{"pattern":"2","status":201}]"#, 200, &[], "", "no rule"),
     ("[]", 200, &[], "", "no rule"),
     (
         r#"[{"pattern":"999","status":200}]"#,

@@ -1,0 +1,16 @@
+-- which response rule a status selects
+pub mod Choosing
+-- what holds of that
+pub mod Laws
+-- the texts that paths select of a reply's body
+pub mod Bodies
+-- the values of the sources of a rule's mappings
+pub mod Values
+-- the headers of an answer
+pub mod Headers
+-- why no answer is made
+pub mod Stopping
+-- what a client is answered
+pub mod Answers
+-- what an integration without a backend answers
+pub mod Mocking

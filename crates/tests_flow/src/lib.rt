@@ -1,0 +1,25 @@
+//! Tests of what a client is answered where an integration replied, by public calls alone.
+//!
+//! ```text
+//! (r#"[{"pattern":"2..","status":201}]"#, 200, &[], "{}", "201\ncontent-type: application/json\n{}")   // rules, a reply, the answer
+//! ```
+//!
+//! | File | What its tables hold |
+//! |---|---|
+//! | `calls.rt` | no tests: how a definition and a call are made |
+//! | `told.rt` | no tests: how an answer is told |
+//! | `replies.rt` | response rules and replies, with the answer to the byte, or why there is none |
+//! | `mocks.rt` | integrations without a backend and requests, with the same |
+//!
+//! Nothing is promised here: `integration_flow` says what its calls answer, and this crate that they succeed, and that the
+//! answers are what was meant. The cases come from `docs/DEFINITION.md` and from the API Gateway Developer Guide.
+#![tactic(auto)]
+
+#[cfg(test)]
+mod calls;
+#[cfg(test)]
+mod mocks;
+#[cfg(test)]
+mod replies;
+#[cfg(test)]
+mod told;

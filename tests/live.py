@@ -8,7 +8,7 @@ has a limit of its own, so it ends whatever the program does. The store begins e
 over HTTP, by a program of its own that is shut down over HTTP, too; what is expected is said to the byte by docs/HTTP.md, docs/ADMIN.md,
 docs/STORE.md and docs/SCRIPT.md. Nothing is sent that the server would leave unread where it closes a connection: the system would then reset it, and the
 answer might be lost."""
-import os, queue, signal, socket, sqlite3, subprocess, sys, tempfile, threading, time
+import json, os, queue, signal, socket, sqlite3, subprocess, sys, tempfile, threading, time
 
 TOP = os.path.dirname(os.path.dirname(os.path.abspath(__file__)))
 LANES = 4
@@ -513,12 +513,194 @@ def requests_to_a_document_are_checked(server):
         (request(b"PUT", b"/books/v1/books", b"{}"), caused_answer(b"404 Not Found", b"MISSING_AUTHENTICATION_TOKEN", b'{"message": "No such page"}')),
         (
             request(b"POST", b"/books/v1/books", b'{"title":"On the Origin"}'),
-            own_answer(b"500 Internal Server Error", b"API_CONFIGURATION_ERROR", b"Internal server error"),
+            proxied(b"201 Created", b"", b"content-type: application/json\r\nlocation: /books/1\r\n"),
+        ),
+        (
+            b"GET /books/v1/books?author=Ann HTTP/1.1\r\nhost: localhost\r\nx-reader: Bob\r\n\r\n",
+            proxied(b"200 OK", b'{"author": "Ann", "books": []}'),
         ),
     ]
     with Client(server.port) as client:
         for asked, answer in steps:
             client.calls(f"to {asked[:60]}", asked, answer)
+
+
+class Backend:
+    """A backend on the loopback, which replies by the path of a request and keeps what it was sent."""
+
+    def __init__(self):
+        self.listener = socket.create_server(("127.0.0.1", 0))
+        self.port = self.listener.getsockname()[1]
+        self.sent = queue.Queue()
+        threading.Thread(target=self.accept, daemon=True).start()
+
+    def accept(self):
+        while True:
+            try:
+                taken, _ = self.listener.accept()
+            except OSError:
+                return
+            threading.Thread(target=self.serve, args=(taken,), daemon=True).start()
+
+    def serve(self, taken):
+        with taken:
+            taken.settimeout(WAIT)
+            got = b""
+            while b"\r\n\r\n" not in got:
+                got += taken.recv(65536)
+            head, _, body = got.partition(b"\r\n\r\n")
+            length = int(head.rpartition(b"content-length: ")[2].split(b"\r\n")[0])
+            while len(body) < length:
+                body += taken.recv(65536)
+            self.sent.put(head + b"\r\n\r\n" + body)
+            self.reply(taken, head.split(b" ")[1].split(b"?")[0], body)
+
+    def reply(self, taken, path, body):
+        if path == b"/silent":
+            time.sleep(2)
+        elif path in REPLIES:
+            taken.sendall(REPLIES[path])
+        elif path == b"/post":
+            told = b"%d" % len(body)
+            taken.sendall(b"HTTP/1.1 200 OK\r\ncontent-length: %d\r\n\r\n%s" % (len(told), told))
+        else:
+            taken.sendall(b'HTTP/1.1 200 OK\r\nContent-Type: application/json\r\nContent-Length: 12\r\n\r\n{"id":"k 1"}')
+
+    def end(self):
+        self.listener.close()
+
+
+REPLIES = {
+    b"/get": b"HTTP/1.1 200 OK\r\nX-B: 1\r\nContent-Type: text/csv\r\nX-Gateway-Cause: THROTTLED\r\nContent-Length: 3\r\n\r\na,b",
+    b"/head": b"HTTP/1.1 200 OK\r\nContent-Length: 5\r\n\r\n",
+    b"/chunked": b"HTTP/1.1 200 OK\r\nTransfer-Encoding: chunked\r\n\r\n2\r\nhe\r\n3\r\nllo\r\n0\r\n\r\n",
+    b"/none": b"HTTP/1.1 204 No Content\r\n\r\n",
+    b"/garbage": b"nonsense\r\n\r\n",
+    b"/cut": b"HTTP/1.1 200 OK\r\nContent-Length: 10\r\n\r\nabc",
+}
+PROXIED = {"GET": ("get", "chunked", "none", "garbage", "cut"), "POST": ("post",), "HEAD": ("head",)}
+
+
+def backed_document(dead):
+    """An API with a backend at its stage's port, and a method whose backend is not there."""
+    uri = "http://127.0.0.1:${stageVariables.port}"
+    resources = {
+        f"/{path}": {verb: {"integration": {"type": "HTTP_PROXY", "method": verb, "uri": f"{uri}/{path}"}}}
+        for verb, paths in PROXIED.items()
+        for path in paths
+    }
+    resources["/silent"] = {"GET": {"integration": {"type": "HTTP_PROXY", "method": "GET", "uri": f"{uri}/silent", "timeout": 200}}}
+    resources["/dead"] = {"GET": {"integration": {"type": "HTTP_PROXY", "method": "GET", "uri": f"http://127.0.0.1:{dead}/"}}}
+    resources["/items/{id}"] = {
+        "POST": {
+            "integration": {
+                "type": "HTTP",
+                "method": "POST",
+                "uri": f"{uri}/v/{{item}}",
+                "parameters": {
+                    "integration.request.path.item": "method.request.path.id",
+                    "integration.request.querystring.n": "method.request.querystring.count",
+                    "integration.request.header.X-User": "method.request.header.x-reader",
+                },
+                "templates": {"application/json": "{\"n\":$input.json('$.qty')}"},
+                "responses": [
+                    {
+                        "pattern": "2\\d\\d",
+                        "status": 201,
+                        "parameters": {"method.response.header.x-id": "integration.response.body.id"},
+                    },
+                    {"status": 502},
+                ],
+            }
+        }
+    }
+    return json.dumps({"version": 1, "resources": resources}).encode()
+
+
+def proxied(status, body, headers=b"content-type: application/json\r\n", length=True):
+    return b"HTTP/1.1 %s\r\n%s%s\r\n%s" % (status, headers, b"content-length: %d\r\n" % len(body) if length else b"", body)
+
+
+FAILED = own_answer(b"504 Gateway Timeout", b"INTEGRATION_FAILURE", b"Network error communicating with endpoint")
+LAPSED = own_answer(b"504 Gateway Timeout", b"INTEGRATION_TIMEOUT", b"Endpoint request timed out")
+
+
+def integrations_reach_their_backend(server):
+    """Requests to a backend to the byte, its replies mapped and passed on, and what a client is told where none comes."""
+    backend, dead = Backend(), free_port()
+    at = b"127.0.0.1:%d" % backend.port
+    million = b"x" * 1000000
+    item = b'POST /backed/v1/items/a%%2Fb?count=2&more=1 HTTP/1.1\r\nhost: localhost\r\nx-reader: Ann\r\ncontent-length: 9\r\n\r\n{"qty":3}'.replace(b"%%", b"%")
+    steps = [
+        (request(b"PUT", b"/_admin/apis/backed", backed_document(dead)), DONE, None),
+        (request(b"POST", b"/_admin/apis/backed/deployments"), json_answer(b"200 OK", b'{"reply":"deployed 1"}'), None),
+        (request(b"PUT", b"/_admin/apis/backed/stages/v1", b"1 port=%d" % backend.port), DONE, None),
+        (
+            item,
+            proxied(b"201 Created", b'{"id":"k 1"}', b"content-type: application/json\r\nx-id: k 1\r\n"),
+            b'POST /v/a%2Fb?n=2 HTTP/1.1\r\nhost: ' + at + b'\r\nx-user: Ann\r\ncontent-type: application/json\r\nconnection: close\r\ncontent-length: 7\r\n\r\n{"n":3}',
+        ),
+        (
+            request(b"GET", b"/backed/v1/get?a=%20b"),
+            proxied(b"200 OK", b"a,b", b"content-type: text/csv\r\nx-b: 1\r\n"),
+            b"GET /get?a=%20b HTTP/1.1\r\nhost: " + at + b"\r\nconnection: close\r\ncontent-length: 0\r\n\r\n",
+        ),
+        (
+            request(b"POST", b"/backed/v1/post", million),
+            proxied(b"200 OK", b"1000000"),
+            b"POST /post HTTP/1.1\r\nhost: " + at + b"\r\nconnection: close\r\ncontent-length: 1000000\r\n\r\n" + million,
+        ),
+        (
+            request(b"HEAD", b"/backed/v1/head"),
+            proxied(b"200 OK", b""),
+            b"HEAD /head HTTP/1.1\r\nhost: " + at + b"\r\nconnection: close\r\ncontent-length: 0\r\n\r\n",
+        ),
+        (request(b"GET", b"/backed/v1/chunked"), proxied(b"200 OK", b"hello"), ...),
+        (request(b"GET", b"/backed/v1/none"), proxied(b"204 No Content", b"", length=False), ...),
+        (request(b"GET", b"/backed/v1/garbage"), FAILED, ...),
+        (request(b"GET", b"/backed/v1/cut"), FAILED, ...),
+        (request(b"GET", b"/backed/v1/silent"), LAPSED, ...),
+        (request(b"GET", b"/backed/v1/dead"), FAILED, None),
+    ]
+
+    def work(_):
+        with Client(server.port) as client:
+            for _ in range(5):
+                client.calls("a call beside others", request(b"GET", b"/backed/v1/get"), proxied(b"200 OK", b"a,b", b"content-type: text/csv\r\nx-b: 1\r\n"))
+
+    try:
+        with Client(server.port) as client:
+            for asked, answer, sent in steps:
+                client.calls(f"to {asked[:60]}", asked, answer)
+                if sent is ...:
+                    backend.sent.get(timeout=WAIT)
+                elif sent is not None:
+                    expect(f"what is sent for {asked[:60]}", backend.sent.get(timeout=WAIT), sent)
+        expect("exchanges that nobody asked for", backend.sent.qsize(), 0)
+        at_once(8, work)
+        expect("exchanges", backend.sent.qsize(), 5 * 8)
+    finally:
+        backend.end()
+
+
+def the_pets_are_called(server):
+    """The example with a backend of its own."""
+    script = f"{TOP}/examples/petstore.sh"
+    ended = subprocess.run([script, server.program, free_port(), free_port()], stdin=subprocess.DEVNULL, capture_output=True, timeout=WAIT)
+    lines = [
+        b'{"reply":"done"}',
+        b'{"reply":"deployed 1"}',
+        b'{"reply":"done"}',
+        b"<h1>Pets</h1>",
+        b'[{"id": 1, "type": "dog"}]',
+        b'{"id": 3, "type": "fish", "price": 0.99}',
+        b'{"errors": ["no pet 9"]}',
+        b"201 /pets/4",
+        b'{"message":"Invalid request body"}',
+        b'{"reply":"done"}',
+        b"session entries=20 calls=6 admitted=0 throttled=0 quota=0 notkept=0",
+    ]
+    expect("petstore.sh", (ended.returncode, sorted(ended.stdout.splitlines())), (0, sorted(lines)))
 
 
 def a_stage_shows_its_deployment_and_its_variables(server):
@@ -589,6 +771,8 @@ TESTS = [
     a_file_that_is_no_store_is_told,
     a_stage_shows_its_deployment_and_its_variables,
     requests_to_a_document_are_checked,
+    integrations_reach_their_backend,
+    the_pets_are_called,
     the_examples_do_what_stands_beside_them,
     words_that_are_no_command_end_with_2,
     the_program_still_runs,

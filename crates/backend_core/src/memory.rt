@@ -71,6 +71,14 @@ impl MemBackend {
     {
         self.sent.as_slice()
     }
+
+    /// The requests so far, oldest first, of a backend that is asked no more.
+    pub fn into_sent(self) -> Vec<WireRequest>
+        ensures { result.items ≡ self.sent }
+    {
+        let MemBackend { sent, .. } = self;
+        sent
+    }
 }
 
 // Takes the next outcome of a script.

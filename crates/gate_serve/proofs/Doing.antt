@@ -1,5 +1,7 @@
 -- What a call of the desk does.
 use Rattle.std.proofs.Common.{◌≡◌, ℕ, ◌+◌, ◌==◌, Bool, true, false, ◌||◌, List, [], ◌∷◌, ◌++◌, length, Option, Some, None, IfSome, Result, Ok, Err, ap, sym, ◌∙◌, append-nil, append_assoc, length-append, subst, refl, arith, rules}
+use Rattle.backend_core.specs.declared.outcome.Outcome.{Outcome}
+use Rattle.backend_core.specs.declared.request.WireRequest.{WireRequest}
 use Rattle.book_core.specs.Books.{Refuses}
 use Rattle.book_core.specs.declared.book.StepFault.{StepFault}
 use Rattle.book_core.specs.declared.book.StepFault.TheVariants as step
@@ -7,11 +9,12 @@ use Rattle.book_rules.specs.History.{Base, Answers}
 use Rattle.book_rules.specs.declared.events.Entry.{Entry}
 use Rattle.book_rules.specs.declared.events.Event.{Event}
 use Rattle.book_rules.specs.declared.replies.Reply.{Reply}
-use Rattle.gate_serve.specs.Serving.{Did, Reaches, Gives, called_by, seat_of}
+use Rattle.gate_serve.specs.Serving.{Asked, BackendTold, Did, Reaches, Gives, called_by, seat_of}
+use Rattle.gate_serve.proofs.Asking.{asked_both, asked_none, asked_nothing}
 use Rattle.gate_serve.specs.declared.called.Called.{Called}
 use Rattle.gate_serve.specs.declared.called.Called.TheVariants.{Answered, Full, Memory}
-use Rattle.gate_walk.specs.Acts.{Act, took, refused, Goes, Stand, WentOn, entry_of, entries_of, made_by, tell_closing, leaves_closing}
-use Rattle.gate_walk.specs.Walk.{Call, asks, answers}
+use Rattle.gate_walk.specs.Acts.{Act, took, refused, sent, Goes, Stand, WentOn, entry_of, entries_of, made_by, tell_closing, leaves_closing}
+use Rattle.gate_walk.specs.Walk.{Call, asks, sends, answers}
 use Rattle.gate_walk.specs.declared.ended.SessionFull.{SessionFull as Numbers}
 use Rattle.gate_walk.proofs.Standing.{entries_both, stays, stand_both, made_both, closing_both}
 use Rattle.turn_desk.specs.Calls.{SeatFacts, IsSameSeat, HasItsOwn, Taken, NotTaken}
@@ -134,27 +137,66 @@ did_take k l event reply own now apart same t =
     )
 
 -- where an event was taken, what follows its reply follows the step
+pub through : (k l m : Seats) (event : Event) (reply : Reply) (next : Reply → Call) (called : Called) (closing : Bool) (acts : List Act)
+    → (first : (kept : Bool) × Did k l (took event kept reply ∷ [])) → leaves_closing event reply ≡ false
+    → Did l m acts → Reaches (next reply) acts called → closing ≡ tell_closing acts
+    → Did k m (took event first.0 reply ∷ acts) × Reaches (asks event next) (took event first.0 reply ∷ acts) called × (closing ≡ tell_closing (took event first.0 reply ∷ acts))
+through k l m event reply next (Answered cause bytes closes) closing acts first open_still did reach tells = (
+  did_both k l m (took event first.0 reply ∷ []) acts first.1 did,
+  (refl, reach),
+  tells ∙ ap (λ b. b || tell_closing acts) (sym open_still),
+)
+through k l m event reply next (Full full) closing acts first open_still did reach tells = (
+  did_both k l m (took event first.0 reply ∷ []) acts first.1 did,
+  (reach.0, (refl, reach.1), took event first.0 reply ∷ reach.2, reach.3, ap (λ l. took event first.0 reply ∷ l) reach.4),
+  tells ∙ ap (λ b. b || tell_closing acts) (sym open_still),
+)
+through k l m event reply next Memory closing acts first open_still did reach tells = (
+  did_both k l m (took event first.0 reply ∷ []) acts first.1 did,
+  (reach.0, (refl, reach.1)),
+  tells ∙ ap (λ b. b || tell_closing acts) (sym open_still),
+)
+
 pub goes_through : (k l m : Seats) (event : Event) (reply : Reply) (next : Reply → Call) (called : Called) (closing : Bool)
     → ((kept : Bool) × Did k l (took event kept reply ∷ [])) → leaves_closing event reply ≡ false
     → ((acts : List Act) × Did l m acts × Reaches (next reply) acts called × (closing ≡ tell_closing acts))
     → (acts : List Act) × Did k m acts × Reaches (asks event next) acts called × (closing ≡ tell_closing acts)
-goes_through k l m event reply next (Answered cause bytes closes) closing first open_still then = (
-  took event first.0 reply ∷ then.0,
-  did_both k l m (took event first.0 reply ∷ []) then.0 first.1 then.1,
-  (refl, then.2),
-  then.3 ∙ ap (λ b. b || tell_closing then.0) (sym open_still),
-)
-goes_through k l m event reply next (Full full) closing first open_still then = (
-  took event first.0 reply ∷ then.0,
-  did_both k l m (took event first.0 reply ∷ []) then.0 first.1 then.1,
-  (then.2.0, (refl, then.2.1), took event first.0 reply ∷ then.2.2, then.2.3, ap (λ acts. took event first.0 reply ∷ acts) then.2.4),
-  then.3 ∙ ap (λ b. b || tell_closing then.0) (sym open_still),
-)
-goes_through k l m event reply next Memory closing first open_still then = (
-  took event first.0 reply ∷ then.0,
-  did_both k l m (took event first.0 reply ∷ []) then.0 first.1 then.1,
-  (then.2.0, (refl, then.2.1)),
-  then.3 ∙ ap (λ b. b || tell_closing then.0) (sym open_still),
+goes_through k l m event reply next called closing first open_still then =
+    let all = through k l m event reply next called closing then.0 first open_still then.1 then.2 then.3 in
+    (took event first.0 reply ∷ then.0, all.0, all.1, all.2)
+
+-- the same with what a backend was asked then
+pub goes_through_asking : (k l m : Seats) (event : Event) (reply : Reply) (next : Reply → Call) (called : Called) (closing : Bool) (old new : BackendTold)
+    → ((kept : Bool) × Did k l (took event kept reply ∷ [])) → leaves_closing event reply ≡ false
+    → ((acts : List Act) × Did l m acts × Reaches (next reply) acts called × (closing ≡ tell_closing acts) × Asked old new acts)
+    → (acts : List Act) × Did k m acts × Reaches (asks event next) acts called × (closing ≡ tell_closing acts) × Asked old new acts
+goes_through_asking k l m event reply next called closing old new first open_still then =
+    let all = through k l m event reply next called closing then.0 first open_still then.1 then.2 then.3 in
+    (took event first.0 reply ∷ then.0, all.0, all.1, all.2, record { sends = then.4.sends; gives = then.4.gives; draws = then.4.draws })
+
+-- where an exchange came to an outcome, what follows it follows the exchange
+did_send : (k l : Seats) (request : WireRequest) (outcome : Outcome) (acts : List Act) → Did k l acts → Did k l (sent request outcome ∷ acts)
+did_send k l request outcome acts d = record { same = d.same; stand = stands k.base d.stand; mine = d.mine; own = d.own; none_from = d.none_from }
+  where
+    stands : (base : Option Base) → IfSome base (λ b. Stand b k.number k.seen acts l.seen) → IfSome base (λ b. Stand b k.number k.seen (sent request outcome ∷ acts) l.seen)
+    stands None s = tt
+    stands (Some b) s = s
+
+reaches_behind : (request : WireRequest) (outcome : Outcome) (next : Outcome → Call) (acts : List Act) (called : Called) → Reaches (next outcome) acts called
+    → Reaches (sends request next) (sent request outcome ∷ acts) called
+reaches_behind request outcome next acts (Answered cause bytes closes) reach = (refl, reach)
+reaches_behind request outcome next acts (Full full) reach = (reach.0, (refl, reach.1), sent request outcome ∷ reach.2, reach.3, ap (λ l. sent request outcome ∷ l) reach.4)
+reaches_behind request outcome next acts Memory reach = (reach.0, (refl, reach.1))
+
+pub goes_out : (k l : Seats) (request : WireRequest) (outcome : Outcome) (next : Outcome → Call) (called : Called) (closing : Bool) (old mid new : BackendTold)
+    → Asked old mid (sent request outcome ∷ []) → ((acts : List Act) × Did k l acts × Reaches (next outcome) acts called × (closing ≡ tell_closing acts) × Asked mid new acts)
+    → (acts : List Act) × Did k l acts × Reaches (sends request next) acts called × (closing ≡ tell_closing acts) × Asked old new acts
+goes_out k l request outcome next called closing old mid new first (acts, did, reach, tells, asked) = (
+  sent request outcome ∷ acts,
+  did_send k l request outcome acts did,
+  reaches_behind request outcome next acts called reach,
+  tells,
+  asked_both old mid new (sent request outcome ∷ []) acts first asked,
 )
 
 -- the last step was taken: its answer stands there
@@ -182,3 +224,19 @@ goes_nowhere k l event next step.Memory own now apart same n = ([], did_lack k l
 -- memory was wanting before anything was done
 pub goes_not : (k : Seats) (call : Call) → HasItsOwn seat_of k → (acts : List Act) × Did k k acts × Reaches call acts Memory × (false ≡ tell_closing acts)
 goes_not k call own = ([], did_nothing k own, (call, refl), refl)
+
+-- the same with a backend that was asked nothing
+pub goes_nowhere_asking : (k l : Seats) (event : Event) (next : Reply → Call) (fault : StepFault) (told : BackendTold) → HasItsOwn seat_of k → HasItsOwn seat_of l → HasNoneFrom seat_of l.seats l.seen → IsSameSeat k l
+    → NotTaken Refuses k l event fault → (acts : List Act) × Did k l acts × Reaches (asks event next) acts (called_by fault) × (false ≡ tell_closing acts) × Asked told told acts
+goes_nowhere_asking k l event next (step.SessionFull entries bytes) told own now apart same n =
+    let full : Numbers = record { entries = entries; bytes = bytes } in (
+      refused event full ∷ [],
+      did_refuse k l event full own now apart same n,
+      (asks event next, (refl, refl, refl), [], event, refl),
+      refl,
+      asked_none told (refused event full ∷ []) (refl, refl),
+    )
+goes_nowhere_asking k l event next step.Memory told own now apart same n = ([], did_lack k l event own now apart same n, (asks event next, refl), refl, asked_nothing told)
+
+pub goes_not_asking : (k : Seats) (call : Call) (told : BackendTold) → HasItsOwn seat_of k → (acts : List Act) × Did k k acts × Reaches call acts Memory × (false ≡ tell_closing acts) × Asked told told acts
+goes_not_asking k call told own = ([], did_nothing k own, (call, refl), refl, asked_nothing told)

@@ -1,6 +1,8 @@
 -- What serving a message leaves of a seat, and how far the message came.
 use Rattle.std.specs.Prelude.{◌≡◌, ℕ, Bool, true, false, List, [], ◌∷◌, ◌++◌, Option, Some, None, ⊤, IfSome}
 use Rattle.std.specs.Option.{option_map}
+use Rattle.backend_core.specs.declared.outcome.Outcome.{Outcome}
+use Rattle.backend_core.specs.declared.request.WireRequest.{WireRequest}
 use Rattle.book_core.specs.declared.book.StepFault.{StepFault}
 use Rattle.book_core.specs.declared.book.StepFault.TheVariants as step
 use Rattle.book_rules.specs.History.{Base}
@@ -11,7 +13,7 @@ use Rattle.call_facts.specs.declared.kind.Kind.{Kind}
 use Rattle.call_facts.specs.declared.target.Target.{Target}
 use Rattle.gate_serve.specs.declared.called.Called.{Called}
 use Rattle.gate_serve.specs.declared.called.Called.TheVariants.{Answered, Full, Memory}
-use Rattle.gate_walk.specs.Acts.{Act, refused, Goes, Stand, made_by}
+use Rattle.gate_walk.specs.Acts.{Act, refused, DrawsFrom, Goes, Stand, given_to, made_by, sent_by}
 use Rattle.gate_walk.specs.Walk.{Call, asks, answers}
 use Rattle.gate_walk.specs.declared.ended.Ended.{Ended}
 use Rattle.gate_walk.specs.declared.ended.Ended.TheVariants as ended
@@ -64,6 +66,19 @@ enter_at m target = Enter m.moment m.word target.api target.stage
 -- a list that is told goes on by these
 abbrev pub GoesOnBy : {A : Type 0} → Option (List A) → Option (List A) → List A → Type 0
 GoesOnBy old new more = new ≡ option_map (λ items. items ++ more) old
+
+-- what a backend tells: the requests and the outcomes so far, and the outcomes that are to come
+pub record BackendTold : Type 0 where
+  pub sent : Option (List WireRequest)
+  pub given : Option (List Outcome)
+  pub to_come : Option (List Outcome)
+
+-- A backend was asked just what these acts asked of one: it tells their requests and their outcomes behind those of before, and their
+-- outcomes are the next of those that were to come.
+pub record Asked (old new : BackendTold) (acts : List Act) : Type 0 where
+  pub sends : GoesOnBy old.sent new.sent (sent_by acts)
+  pub gives : GoesOnBy old.given new.given (given_to acts)
+  pub draws : DrawsFrom old.to_come (given_to acts) new.to_come
 
 -- the end that a fault of the input is, and the end that a stopped write is
 abbrev pub ended_by : EdgeFault → Ended

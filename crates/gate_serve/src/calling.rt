@@ -1,20 +1,21 @@
 // One message through the book.
 ghost use Rattle.std.specs.Prelude.{◌≡◌, List, IfOk};
-ghost use Rattle.book_rules.specs.Times.{IsInTime};
 ghost use Rattle.call_facts.specs.Target.{target_of};
 ghost use Rattle.gate_walk.specs.Acts.{Act, tell_closing};
-ghost use Rattle.gate_walk.specs.Walk.{walk, walk_to, entered};
-ghost use Rattle.gate_serve.specs.Serving.{Did, Reaches, seat_of, enter_at};
+ghost use Rattle.gate_walk.specs.Walk.{walk, walk_to};
+ghost use Rattle.gate_serve.specs.Serving.{Asked, BackendTold, Did, Reaches, seat_of, enter_at};
 ghost use Rattle.turn_desk.specs.Calls.{HasItsOwn};
 
 use crate::administering::administer;
 use crate::called::{Called, refusal};
-use crate::leaving::leave;
+use crate::following::follow;
 use admin_routes::is_admin;
+use backend_core::Backend;
 use book_core::Book;
-use book_rules::{Event, Reply};
+use book_rules::Event;
 use call_facts::Target;
-use gate_walk::{Message, answer_for};
+use gate_ports::{Gate, Means};
+use gate_walk::{Message, plan_for};
 use gw_base::Memory;
 use keeper_core::Keeper;
 use std::alloc::Global;
@@ -33,39 +34,23 @@ fn enter_of(alloc: Global, message: &Message, target: &Target) -> Result<Event, 
     })
 }
 
-// What follows the Enter of a message with this target.
-fn go_on<R: Wait, K: Keeper>(
-    rt: &R,
-    alloc: Global,
-    desk: &Desk<Book<K>>,
-    seat: Seat<Book<K>>,
-    message: &Message,
-    target: &Target,
-    reply: &Reply,
-) -> (Seat<Book<K>>, Called, bool)
-    requires desk { seat.desk ≡ desk.now }
-    requires own { HasItsOwn seat_of seat }
-    requires time { IsInTime reply.now }
-    ensures { (acts : List Act) × Did seat result.0 acts × Reaches (entered message.now target.now reply.now) acts result.1 × (result.2 ≡ tell_closing acts) }
-{
-    match answer_for(alloc, message.too_large, reply, &message.request, target) {
-        Ok(made) => leave(rt, alloc, desk, seat, message, &made),
-        Err(_) => (seat, Called::Memory, false),
-    }
-}
-
 // The way of a message to the stage that its target names.
-fn enter<R: Wait, K: Keeper>(
+fn enter<R: Wait, K: Keeper, B: Backend, T, W, G: Gate>(
     rt: &R,
     alloc: Global,
     desk: &Desk<Book<K>>,
     seat: Seat<Book<K>>,
     message: &Message,
     target: &Target,
+    means: &mut Means<B, T, W, G>,
 ) -> (Seat<Book<K>>, Called, bool)
     requires desk { seat.desk ≡ desk.now }
     requires own { HasItsOwn seat_of seat }
-    ensures { (acts : List Act) × Did seat result.0 acts × Reaches (walk_to message.now target.now) acts result.1 × (result.2 ≡ tell_closing acts) }
+    ensures walked { (acts : List Act) × Did seat result.0 acts × Reaches (walk_to message.now target.now) acts result.1 × (result.2 ≡ tell_closing acts)
+        × Asked (record { sent = B.sent means.old.backend; given = B.given means.old.backend; to_come = B.to_come means.old.backend })
+        (record { sent = B.sent means.new.backend; given = B.given means.new.backend; to_come = B.to_come means.new.backend }) acts }
+    ensures clock { means.new.clock ≡ means.old.clock }
+    ensures words { means.new.words ≡ means.old.words }
 {
     let Ok(event) = enter_of(alloc, message, target) else {
         return (seat, Called::Memory, false);
@@ -73,7 +58,12 @@ fn enter<R: Wait, K: Keeper>(
     let (seat, entering) = desk.call(rt, alloc, seat, event);
     match entering {
         Err(fault) => (seat, refusal(fault), false),
-        Ok(reply) => go_on(rt, alloc, desk, seat, message, target, &reply),
+        Ok(reply) => {
+            match plan_for(alloc, message.too_large, &reply, &message.request, target) {
+                Ok(plan) => follow(rt, alloc, desk, seat, message, &plan, means),
+                Err(_) => (seat, Called::Memory, false),
+            }
+        }
     }
 }
 
@@ -84,16 +74,21 @@ fn read_target(alloc: Global, message: &Message) -> Result<Target, Memory>
 }
 
 /// The whole way of a message, as far as it comes; the last tells whether the book replied that the session is closing.
-pub(crate) fn call<R: Wait, K: Keeper>(
+pub(crate) fn call<R: Wait, K: Keeper, B: Backend, T, W, G: Gate>(
     rt: &R,
     alloc: Global,
     desk: &Desk<Book<K>>,
     seat: Seat<Book<K>>,
     message: &Message,
+    means: &mut Means<B, T, W, G>,
 ) -> (Seat<Book<K>>, Called, bool)
     requires desk { seat.desk ≡ desk.now }
     requires own { HasItsOwn seat_of seat }
-    ensures { (acts : List Act) × Did seat result.0 acts × Reaches (walk message.now) acts result.1 × (result.2 ≡ tell_closing acts) }
+    ensures walked { (acts : List Act) × Did seat result.0 acts × Reaches (walk message.now) acts result.1 × (result.2 ≡ tell_closing acts)
+        × Asked (record { sent = B.sent means.old.backend; given = B.given means.old.backend; to_come = B.to_come means.old.backend })
+        (record { sent = B.sent means.new.backend; given = B.given means.new.backend; to_come = B.to_come means.new.backend }) acts }
+    ensures clock { means.new.clock ≡ means.old.clock }
+    ensures words { means.new.words ≡ means.old.words }
 {
     let Ok(target) = read_target(alloc, message) else {
         return (seat, Called::Memory, false);
@@ -101,6 +96,6 @@ pub(crate) fn call<R: Wait, K: Keeper>(
     if is_admin(&target) {
         administer(rt, alloc, desk, seat, message, &target)
     } else {
-        enter(rt, alloc, desk, seat, message, &target)
+        enter(rt, alloc, desk, seat, message, &target, means)
     }
 }

@@ -1,8 +1,8 @@
 // One connection.
 ghost use Rattle.std.specs.Prelude.{◌≡◌, Option, IfSome, IfNone};
 ghost use Rattle.gate_ports.specs.Facts.{ConnTold};
-ghost use Rattle.gate_serve.specs.Serving.{Did, GoesOnBy, seat_of};
-ghost use Rattle.gate_walk.specs.Acts.{sent_by, given_to, tell_closing};
+ghost use Rattle.gate_serve.specs.Serving.{Asked, BackendTold, Did, seat_of};
+ghost use Rattle.gate_walk.specs.Acts.{tell_closing};
 ghost use Rattle.gate_walk.specs.Stories.{Story, Tells, acts_of, incoming_of};
 ghost use Rattle.http_edge.specs.declared.incoming.Incoming.TheVariants.{End as end_of_input};
 ghost use Rattle.turn_desk.specs.Calls.{HasItsOwn};
@@ -49,8 +49,8 @@ pub fn serve_connection<R: Wait, K: Keeper, C: Conn, B: Backend, T: Clock, W: Wo
     requires own { HasItsOwn seat_of seat }
     ensures served { (story : Story)
         × Did seat result.0 (acts_of story)
-        × GoesOnBy (B.sent means.old.backend) (B.sent means.new.backend) (sent_by (acts_of story))
-        × GoesOnBy (B.given means.old.backend) (B.given means.new.backend) (given_to (acts_of story))
+        × Asked (record { sent = B.sent means.old.backend; given = B.given means.old.backend; to_come = B.to_come means.old.backend })
+        (record { sent = B.sent means.new.backend; given = B.given means.new.backend; to_come = B.to_come means.new.backend }) (acts_of story)
         × Tells (T.fixed means.old.clock) (W.fixed means.old.words)
         (record { left = C.left conn.old; written = C.written conn.old; read_faults = C.Source.faults conn.old; write_faults = C.Sink.faults conn.old })
         (record { left = C.left conn.new; written = C.written conn.new; read_faults = C.Source.faults conn.new; write_faults = C.Sink.faults conn.new })
@@ -77,7 +77,7 @@ pub fn serve_connection<R: Wait, K: Keeper, C: Conn, B: Backend, T: Clock, W: Wo
             moment: means.clock.now(),
             word: means.words.next(),
         };
-        let (next, called, closing) = call(rt, alloc, desk, seat, &message);
+        let (next, called, closing) = call(rt, alloc, desk, seat, &message, means);
         seat = next;
         let (bytes, closes) = match called {
             Called::Answered {

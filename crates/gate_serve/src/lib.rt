@@ -33,10 +33,11 @@
 //! says of the message in hand is there by cases. A `ReadFault` or a `WriteFault` comes only where the connection's count rose in
 //! this call, and a lane's `PortFault` only where its port's did; a lane ends `Ended` only where no connection is to come, as far as
 //! that is told, and shuts its port exactly where it read that the session is closing. Messages and steps are told where a
-//! connection tells no bytes, too.
+//! connection tells no bytes, too. A backend was asked just what these steps asked of one (`Asked`): it tells their requests and
+//! outcomes behind those of before, and where its script is told the outcomes are the next of it. The gate is passed before each
+//! exchange, while no turn at the book is held.
 //!
-//! Left out: that a call returns (it may wait for its turn, and a lane for connections); exchanges with backends, which no way
-//! makes yet.
+//! Left out: that a call returns (it may wait for its turn, and a lane for connections).
 #![tactic(auto)]
 
 mod administering;
@@ -44,6 +45,7 @@ mod called;
 mod calling;
 mod connection;
 mod edge;
+mod following;
 mod lane;
 mod leaving;
 

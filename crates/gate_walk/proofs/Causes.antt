@@ -13,18 +13,17 @@ use Rattle.call_facts.specs.Target.{target_of}
 use Rattle.call_facts.specs.declared.kind.Kind.{Kind}
 use Rattle.call_facts.specs.declared.request.Request.{Request}
 use Rattle.call_facts.specs.declared.target.Target.{Target}
-use Rattle.gate_walk.specs.Answering.{facts_of, made_at, made_by, made_for, too_large_made}
+use Rattle.gate_walk.specs.Planning.{facts_of, planned_at, planned_by, planned_for, too_large_made}
 use Rattle.gateway_answers.proofs.Causes.{names_one_cause}
 use Rattle.gateway_answers.specs.Answers.{failed_made}
 use Rattle.gateway_answers.specs.Causes.{causes_in}
-use Rattle.method_answers.specs.Answers.{method_made, routed_made, checked_made}
-use Rattle.method_checks.specs.Routing.{route_of}
-use Rattle.method_checks.specs.declared.routes.Route.{Route as MethodRoute}
-use Rattle.method_checks.specs.declared.routes.Route.TheVariants.{TextApi, Hit, Missing}
+use Rattle.method_answers.proofs.Causes.{names_each}
+use Rattle.method_answers.specs.Causes.{Names, NamesEach, names_of}
+use Rattle.method_answers.specs.Plans.{Planned, answered, exchanges, planned}
 use Rattle.api_model.specs.Definition.{Definition}
 use Rattle.call_facts.specs.declared.facts.CallFacts.{CallFacts}
-use Rattle.gate_walk.specs.Laws.{NamesItsCause, names_of}
-use Rattle.gate_walk.specs.Walk.{administered, is_head, leaves, walk, way_to}
+use Rattle.gate_walk.specs.Laws.{NamesItsCause}
+use Rattle.gate_walk.specs.Walk.{administered, follows, is_head, leaves, walk, way_to}
 use Rattle.gate_walk.specs.declared.message.Message.{Message}
 use Rattle.gate_walk.proofs.Ways.{Each, each_answer}
 use Rattle.http_edge.specs.Answers.{spelled}
@@ -32,9 +31,6 @@ use Rattle.method_flow.specs.Answers.{gateway_answer, gateway_made, text_answer,
 use Rattle.method_flow.specs.declared.answers.Made.{Made}
 use Rattle.vtl_eval.specs.declared.stop.Rendered.{Rendered}
 use Rattle.vtl_eval.specs.declared.stop.Stop.{Stop}
-
-abbrev Names : Made → Type 0
-Names made = causes_in made.answer.headers ≡ names_of made.cause
 
 -- so does the answer of a message that asks nothing of the book
 abbrev IsErrNamed : Result Command Made → Type 0
@@ -53,24 +49,15 @@ of_text (Err stop) = of_gateway _
 of_failure : (kind : Kind) (message : List ℕ) (d : Option Definition) (f : CallFacts) → Names (failed_made kind message d f)
 of_failure kind message d f = names_one_cause kind message d f
 
-of_check : (d : Definition) (f : CallFacts) (failed : Option (Kind × List ℕ)) → Names (checked_made d f failed)
-of_check d f (Some failed) = of_failure _ _ _ _
-of_check d f None = of_failure _ _ _ _
+-- whatever is answered: at once, or to an outcome
+of_text_api : (r : Result Rendered Stop) → NamesEach (answered (text_made r))
+of_text_api r = of_text r
 
-of_found : (d : Definition) (r : Request) (target : Target) (f : CallFacts) (route : MethodRoute) → Names (routed_made d r target f route)
-of_found d r target f TextApi = of_failure _ _ _ _
-of_found d r target f (Hit found method) = of_check _ _ _
-of_found d r target f Missing = of_failure _ _ _ _
+at_view : (is_text : Bool) (view : View) (r : Request) (target : Target) → NamesEach (planned_at is_text view r target)
+at_view true view r target = of_text_api _
+at_view false view r target = names_each _ _ _ _
 
-of_method : (d : Definition) (r : Request) (target : Target) (f : CallFacts) → Names (method_made d r target f)
-unfolding method_made
-of_method d r target f = of_found d r target f (route_of d r target)
-
-at_view : (is_text : Bool) (view : View) (r : Request) (target : Target) → Names (made_at is_text view r target)
-at_view true view r target = of_text _
-at_view false view r target = of_method _ _ _ _
-
-by_reply : (reply : Reply) (r : Request) (target : Target) → Names (made_by reply r target)
+by_reply : (reply : Reply) (r : Request) (target : Target) → NamesEach (planned_by reply r target)
 by_reply (Entered view) r target = at_view view.api.is_text view r target
 by_reply NoStage r target = of_gateway _
 by_reply Store r target = of_gateway _
@@ -88,7 +75,7 @@ by_size Done target = of_gateway _
 by_size (Deployed number) target = of_gateway _
 by_size (Refused refusal) target = of_gateway _
 
-for_message : (large : Bool) (reply : Reply) (r : Request) (target : Target) → Names (made_for large reply r target)
+for_message : (large : Bool) (reply : Reply) (r : Request) (target : Target) → NamesEach (planned_for large reply r target)
 for_message true reply r target = by_size reply target
 for_message false reply r target = by_reply reply r target
 
@@ -119,9 +106,13 @@ on_order : (m : Message) (order : Result Command Made) → IsErrNamed order → 
 on_order m (Ok command) names = λ reply. on_leave m (replied_made reply) (of_json (reply_status reply) _)
 on_order m (Err made) names = on_leave m made names
 
+on_plan : (m : Message) (p : Planned) → NamesEach p → Each (Named m) false (follows m p)
+on_plan m (answered made) names = on_leave m made names
+on_plan m (exchanges request next) names = λ outcome. on_leave m (next outcome) (names outcome)
+
 on_target : (admin : Bool) (m : Message) (target : Target) → Each (Named m) false (way_to admin m target)
 on_target true m target = on_order m (order_of m.too_large m.request target) (of_request m.too_large m.request target)
-on_target false m target = λ reply. on_leave m (made_for m.too_large reply m.request target) (for_message m.too_large reply m.request target)
+on_target false m target = λ reply. on_plan m (planned_for m.too_large reply m.request target) (for_message m.too_large reply m.request target)
 
 on_way : (m : Message) → Each (Named m) false (walk m)
 unfolding walk

@@ -1,5 +1,6 @@
 -- What is done on a way, where all that is outside of the book is told and the seat is alone: the acts are fixed.
-use Rattle.std.proofs.Common.{◌≡◌, ◌⊎◌, inl, inr, ℕ, Bool, true, false, not, ◌||◌, cond, List, [], ◌∷◌, ◌++◌, length, Option, Some, None, IsSome, ap, sym, ◌∙◌, subst, refl, append_assoc}
+use Rattle.std.proofs.Common.{◌≡◌, ◌⊎◌, inl, inr, ℕ, Bool, true, false, not, ◌||◌, cond, List, [], ◌∷◌, ◌++◌, drop, length, Option, Some, None, IsSome, ap, sym, ◌∙◌, subst, refl, append_assoc}
+use Rattle.backend_core.specs.Exchanges.{next_of}
 use Rattle.backend_core.specs.declared.outcome.Outcome.{Outcome}
 use Rattle.backend_core.specs.declared.request.WireRequest.{WireRequest}
 use Rattle.book_rules.specs.History.{Base, Answers, IsAsPlanned, is_changing, is_full, reply as reply_to, total_size}
@@ -7,12 +8,11 @@ use Rattle.book_rules.specs.declared.events.Entry.{Entry}
 use Rattle.book_rules.specs.declared.events.Event.{Event}
 use Rattle.book_rules.specs.declared.replies.Reply.{Reply}
 use Rattle.call_facts.specs.declared.kind.Kind.{Kind}
-use Rattle.gate_walk.specs.Acts.{Act, took, refused, sent, Goes, IsFullAt, entry_of}
+use Rattle.gate_walk.specs.Acts.{Act, took, refused, sent, Draws, Goes, IsFullAt, entry_of, given_to}
 use Rattle.gate_walk.specs.Told.{is_kept, is_planned, entry_at, reply_at, numbers_of}
 use Rattle.gate_walk.specs.Walk.{Call, asks, sends, answers}
 use Rattle.gate_walk.specs.declared.ended.SessionFull.{SessionFull}
 use Rattle.gate_walk.proofs.Following.{Follow}
-use Rattle.gate_walk.proofs.Ways.{AsksNone}
 use Rattle.keeper_core.specs.Keeping.{Planned}
 
 -- a step there, and what follows it
@@ -20,11 +20,11 @@ abbrev step_by : Bool → ℕ → Base → List Entry → Event → List Act →
 step_by true n base h e then = refused e (numbers_of h) ∷ []
 step_by false n base h e then = took e (is_kept base h e) (reply_at base h e) ∷ then
 
--- the acts from here on, where no backend is asked
-abbrev pub doing : Base → ℕ → Call → List Entry → List Act
-doing base n (asks e next) h = step_by (is_full base.limits h e) n base h e (doing base n (next (reply_at base h e)) (h ++ entry_at n base h e ∷ []))
-doing base n (sends request next) h = []
-doing base n (answers cause bytes closing) h = []
+-- the acts from here on, where backends give these outcomes
+abbrev pub doing : Base → ℕ → Call → List Entry → List Outcome → List Act
+doing base n (asks e next) h script = step_by (is_full base.limits h e) n base h e (doing base n (next (reply_at base h e)) (h ++ entry_at n base h e ∷ []) script)
+doing base n (sends request next) h script = sent request (next_of script) ∷ doing base n (next (next_of script)) h (drop 1 script)
+doing base n (answers cause bytes closing) h script = []
 
 -- the acts came to an answer, or to a refusal
 abbrev pub IsAnswer : Call → Type 0
@@ -89,30 +89,39 @@ module _ (base : Base) (n : ℕ) (told : IsSome base.start.planned) where
   at_step full h e then acts is s = ap (λ b. step_by b n base h e then) is ∙ s
 
   -- the acts that lead to an answer, or to a refusal, are these
-  pub acts_are : (call after : Call) (acts : List Act) (h end : List Entry) → AsksNone call → Goes call acts after → IsOver acts after → Follow base n h acts end → doing base n call h ≡ acts
-  acts_are (answers cause bytes closing) after [] h end none goes over f = refl
-  acts_are (answers cause bytes closing) after (act ∷ acts) h end none goes over f = absurd goes
-  acts_are (asks e next) after [] h end none goes over f = absurd (not_over (asks e next) after goes (λ x. x) over)
-  acts_are (asks e next) after (took event kept reply ∷ acts) h end none (is, goes) over (answer, f) =
+  pub acts_are : (call after : Call) (acts : List Act) (h end : List Entry) (script left : List Outcome) → Goes call acts after → IsOver acts after → Follow base n h acts end
+      → Draws script (given_to acts) left → doing base n call h script ≡ acts
+  acts_are (answers cause bytes closing) after [] h end script left goes over f d = refl
+  acts_are (answers cause bytes closing) after (act ∷ acts) h end script left goes over f d = absurd goes
+  acts_are (asks e next) after [] h end script left goes over f d = absurd (not_over (asks e next) after goes (λ x. x) over)
+  acts_are (asks e next) after (took event kept reply ∷ acts) h end script left (is, goes) over (answer, f) d =
       let is_told : kept ≡ is_kept base h event = kept_as_told base h (entry_of n event kept) reply told answer in
       let reply_is : reply ≡ reply_at base h event = answer.reply ∙ ap (λ k. reply_of k) is_told in
       let room : is_full base.limits h e ≡ false = ap (is_full base.limits h) (sym is) ∙ answer.room in
-      let later : doing base n (next reply) (h ++ entry_of n event kept ∷ []) ≡ acts =
-      acts_are (next reply) after acts (h ++ entry_of n event kept ∷ []) end (none reply) goes (over_behind (took event kept reply) acts after (λ x full. took_refused) over) f in
+      let later : doing base n (next reply) (h ++ entry_of n event kept ∷ []) script ≡ acts =
+      acts_are (next reply) after acts (h ++ entry_of n event kept ∷ []) end script left goes (over_behind (took event kept reply) acts after (λ x full. took_refused) over) f d in
       at_step false h e _ (took event kept reply ∷ acts) room
-      (ap (λ x. took x (is_kept base h x) (reply_at base h x) ∷ doing base n (next (reply_at base h x)) (h ++ entry_at n base h x ∷ [])) (sym is)
-      ∙ ap (λ (p : Reply). took event (is_kept base h event) p ∷ doing base n (next p) (h ++ entry_at n base h event ∷ [])) (sym reply_is)
-      ∙ ap (λ (k : Bool). took event k reply ∷ doing base n (next reply) (h ++ entry_of n event k ∷ [])) (sym is_told)
+      (ap (λ x. took x (is_kept base h x) (reply_at base h x) ∷ doing base n (next (reply_at base h x)) (h ++ entry_at n base h x ∷ []) script) (sym is)
+      ∙ ap (λ (p : Reply). took event (is_kept base h event) p ∷ doing base n (next p) (h ++ entry_at n base h event ∷ []) script) (sym reply_is)
+      ∙ ap (λ (k : Bool). took event k reply ∷ doing base n (next reply) (h ++ entry_of n event k ∷ []) script) (sym is_told)
       ∙ ap (λ l. took event kept reply ∷ l) later)
     where
       reply_of : Bool → Reply
       reply_of k = reply_to base.opening h event k
-  acts_are (asks e next) after (refused event full ∷ acts) h end none (is, no_more, same) over (there, f) =
+  acts_are (asks e next) after (refused event full ∷ acts) h end script left (is, no_more, same) over (there, f) d =
       let full_is : full ≡ numbers_of h = same_numbers full h there.1 there.2 in
       at_step true h e _ (refused event full ∷ acts) (ap (is_full base.limits h) (sym is) ∙ there.0)
       (ap (λ x. refused x (numbers_of h) ∷ []) (sym is) ∙ ap (λ x. refused event x ∷ []) (sym full_is) ∙ ap (λ l. refused event full ∷ l) (sym no_more))
-  acts_are (asks e next) after (sent request outcome ∷ acts) h end none goes over f = absurd goes
-  acts_are (sends request next) after acts h end none goes over f = absurd none
+  acts_are (asks e next) after (sent request outcome ∷ acts) h end script left goes over f d = absurd goes
+  acts_are (sends request next) after [] h end script left goes over f d = absurd (not_over (sends request next) after goes (λ x. x) over)
+  acts_are (sends request next) after (took event kept reply ∷ acts) h end script left goes over f d = absurd goes
+  acts_are (sends request next) after (refused event full ∷ acts) h end script left goes over f d = absurd goes
+  acts_are (sends request next) after (sent other outcome ∷ acts) h end script left (is, goes) over f (same, d) =
+      let later : doing base n (next outcome) h (drop 1 script) ≡ acts =
+      acts_are (next outcome) after acts h end (drop 1 script) left goes (over_behind (sent other outcome) acts after (λ x full. sent_refused) over) f d in
+      ap (λ r. sent r (next_of script) ∷ doing base n (next (next_of script)) h (drop 1 script)) (sym is)
+      ∙ ap (λ (o : Outcome). sent other o ∷ doing base n (next o) h (drop 1 script)) (sym same)
+      ∙ ap (λ l. sent other outcome ∷ l) later
 
 -- acts lead to one place
 pub one_place : (call : Call) (acts : List Act) (a b : Call) → Goes call acts a → Goes call acts b → a ≡ b

@@ -1,5 +1,6 @@
 mod Causes
 mod Doing
+pub mod Drawing
 mod Following
 mod Once
 pub mod Standing

@@ -1,12 +1,14 @@
 -- A connection comes to one thing.
-use Rattle.std.proofs.Common.{◌≡◌, ◌≢◌, ◌⊎◌, inl, inr, ℕ, ◌+◌, ◌-◌, ◌^◌, ◌≤◌, min, Bool, true, false, List, [], ◌∷◌, ◌++◌, Option, Some, None, IsSome, Result, Ok, Err, ap, sym, ◌∙◌, append-nil, append_assoc, subst, refl, arith}
+use Rattle.std.proofs.Common.{◌≡◌, ◌≢◌, ◌⊎◌, inl, inr, ℕ, ◌+◌, ◌-◌, ◌^◌, ◌≤◌, min, Bool, true, false, List, [], ◌∷◌, ◌++◌, drop, Option, Some, None, IsSome, Result, Ok, Err, ap, sym, ◌∙◌, append-nil, append_assoc, subst, refl, arith}
 use Rattle.std.specs.Prelude.{flat_map}
+use Rattle.backend_core.specs.declared.outcome.Outcome.{Outcome}
+use Rattle.backend_core.specs.declared.request.WireRequest.{WireRequest}
 use Rattle.book_rules.specs.History.{Base}
 use Rattle.book_rules.specs.declared.events.Entry.{Entry}
 use Rattle.book_rules.specs.declared.events.Event.{Event}
 use Rattle.call_facts.specs.declared.kind.Kind.{Kind}
 use Rattle.call_facts.specs.declared.request.Request.{Request}
-use Rattle.gate_walk.specs.Acts.{Act, took, refused, sent, Goes}
+use Rattle.gate_walk.specs.Acts.{Act, took, refused, sent, Draws, Goes, given_to, sent_by}
 use Rattle.gate_walk.specs.Stories.{Turn, Hand, Story, acts_in, acts_of, answers_of, AreServed, StaysOpen, HasClosed, number_behind, IsInHand, WasRefused, EndsBy, StandsNext, Reads, EndsAt, IsBusy, Writes, IsBytewise, incoming_of, IsReadAt, AreReadAt, IsHandReadAt, HasRisen}
 use Rattle.gate_walk.specs.Told.{Came, ComesTo, ComesToOneThing, faultless}
 use Rattle.gate_walk.specs.Walk.{Call, asks, sends, answers, walk}
@@ -16,7 +18,8 @@ use Rattle.gate_walk.specs.declared.ended.SessionFull.{SessionFull as Numbers}
 use Rattle.gate_walk.specs.declared.message.Message.{Message}
 use Rattle.gate_walk.proofs.Doing.{EndsRefused, IsOver, acts_are, one_place}
 use Rattle.gate_walk.proofs.Following.{Follow, follows, one_after, apart}
-use Rattle.gate_walk.proofs.Ways.{walk_asks_none}
+use Rattle.gate_walk.proofs.Drawing.{draws_apart, one_left}
+use Rattle.gate_walk.proofs.Standing.{given_both, sent_both}
 use Rattle.gw_base.specs.Outside.{Rose}
 use Rattle.http_edge.specs.Answers.{edge_bytes}
 use Rattle.http_edge.specs.Messages.{IsNext}
@@ -136,15 +139,18 @@ module _ (base : Base) (n moment word : ℕ) where
       (mid, so.0, next, so.1, so.2)
 
   -- From a message on: what is left of a story.
-  record Rest (number : ℕ) (bytes : List ℕ) (history : List Entry) (turns : List Turn) (hand : Option Hand) (came : Came) : Type 0 where
+  record Rest (number : ℕ) (bytes : List ℕ) (history : List Entry) (script : List Outcome) (turns : List Turn) (hand : Option Hand) (came : Came) : Type 0 where
     served : AreServed number turns
     readings : AreReadAt (Some moment) (Some word) turns
     hand_readings : IsHandReadAt (Some moment) (Some word) hand
     ends : Ending number bytes turns came.written came.ended hand
     follow : Follow base n history (acts_in_all turns ++ acts_in hand) came.history
+    sends : came.sent ≡ sent_by (acts_in_all turns ++ acts_in hand)
+    left : List Outcome
+    draws : Draws script (given_to (acts_in_all turns ++ acts_in hand)) left
 
   -- A message of it, and what is left then: nothing, or from the next message on.
-  record Step (number : ℕ) (bytes : List ℕ) (history : List Entry) (t : Turn) (ts : List Turn) (hand : Option Hand) (came : Came) : Type 0 where
+  record Step (number : ℕ) (bytes : List ℕ) (history : List Entry) (script : List Outcome) (t : Turn) (ts : List Turn) (hand : Option Hand) (came : Came) : Type 0 where
     numbered : t.message.number ≡ number
     read_at : IsReadAt (Some moment) (Some word) t.message
     goes : Goes (walk t.message) t.acts (answers t.cause t.answer t.closes)
@@ -152,20 +158,25 @@ module _ (base : Base) (n moment word : ℕ) where
     next : StandsNext bytes t.message mid
     after : List Entry
     follow : Follow base n history t.acts after
+    to_come : List Outcome
+    draws : Draws script (given_to t.acts) to_come
+    requests : List WireRequest
+    sends : came.sent ≡ sent_by t.acts ++ requests
     more : List ℕ
     wrote : came.written ≡ t.answer ++ more
-    then : ((more ≡ []) × (came.ended ≡ Closed) × (came.history ≡ after) × (t.closes ≡ true))
-        ⊎ (Rest (number + 1) mid after ts hand (record { history = came.history; written = more; ended = came.ended }) × (t.closes ≡ false))
+    then : ((more ≡ []) × (came.ended ≡ Closed) × (came.history ≡ after) × (requests ≡ []) × (t.closes ≡ true))
+        ⊎ (Rest (number + 1) mid after to_come ts hand (record { history = came.history; sent = requests; written = more; ended = came.ended }) × (t.closes ≡ false))
 
   no_acts : (turns : List Turn) (hand : Option Hand) → turns ≡ [] → hand ≡ None → acts_in_all turns ++ acts_in hand ≡ []
   no_acts turns hand none also = ap (λ ts. acts_in_all ts ++ acts_in hand) none ∙ ap acts_in also
 
-  step_of : (number : ℕ) (bytes : List ℕ) (history : List Entry) (t : Turn) (ts : List Turn) (hand : Option Hand) (came : Came)
-      → Rest number bytes history (t ∷ ts) hand came → Step number bytes history t ts hand came
-  step_of number bytes history t ts hand came r =
+  step_of : (number : ℕ) (bytes : List ℕ) (history : List Entry) (script : List Outcome) (t : Turn) (ts : List Turn) (hand : Option Hand) (came : Came)
+      → Rest number bytes history script (t ∷ ts) hand came → Step number bytes history script t ts hand came
+  step_of number bytes history script t ts hand came r =
       let further : List Act = acts_in_all ts ++ acts_in hand in
       let is : acts_in_all (t ∷ ts) ++ acts_in hand ≡ t.acts ++ further = append_assoc t.acts (acts_in_all ts) (acts_in hand) in
       let parts = apart base n t.acts further history came.history (subst (λ acts. Follow base n history acts came.history) is r.follow) in
+      let drawn = draws_apart (given_to t.acts) (given_to further) script r.left (subst (λ o. Draws script o r.left) (ap given_to is ∙ given_both t.acts further) r.draws) in
       record {
         numbered = r.served.0;
         read_at = r.readings.0;
@@ -174,19 +185,24 @@ module _ (base : Base) (n moment word : ℕ) where
         next = r.ends.2;
         after = parts.0;
         follow = parts.1;
+        to_come = drawn.0;
+        draws = drawn.1;
+        requests = sent_by further;
+        sends = r.sends ∙ ap sent_by is ∙ sent_both t.acts further;
         more = r.ends.1;
         wrote = r.ends.3;
-        then = behind parts.0 parts.2 r.ends.4;
+        then = behind parts.0 parts.2 drawn.0 drawn.2 r.ends.4;
       }
     where
       behind : (after : List Entry) → Follow base n after (acts_in_all ts ++ acts_in hand) came.history
+          → (to_come : List Outcome) → Draws to_come (given_to (acts_in_all ts ++ acts_in hand)) r.left
           → (((ts ≡ []) × (r.ends.1 ≡ []) × (came.ended ≡ Closed) × (hand ≡ None) × (t.closes ≡ true)) ⊎ (Ending (number + 1) r.ends.0 ts r.ends.1 came.ended hand × (t.closes ≡ false)))
-          → ((r.ends.1 ≡ []) × (came.ended ≡ Closed) × (came.history ≡ after) × (t.closes ≡ true))
-          ⊎ (Rest (number + 1) r.ends.0 after ts hand (record { history = came.history; written = r.ends.1; ended = came.ended }) × (t.closes ≡ false))
-      behind after f (inl (none, no_more, ended, no_hand, closes)) =
-          inl (no_more, ended, subst (λ acts. Follow base n after acts came.history) (no_acts ts hand none no_hand) f, closes)
-      behind after f (inr (ends, open_still)) = inr (
-        record { served = r.served.3; readings = r.readings.1; hand_readings = r.hand_readings; ends = ends; follow = f },
+          → ((r.ends.1 ≡ []) × (came.ended ≡ Closed) × (came.history ≡ after) × (sent_by (acts_in_all ts ++ acts_in hand) ≡ []) × (t.closes ≡ true))
+          ⊎ (Rest (number + 1) r.ends.0 after to_come ts hand (record { history = came.history; sent = sent_by (acts_in_all ts ++ acts_in hand); written = r.ends.1; ended = came.ended }) × (t.closes ≡ false))
+      behind after f to_come d (inl (none, no_more, ended, no_hand, closes)) =
+          inl (no_more, ended, subst (λ acts. Follow base n after acts came.history) (no_acts ts hand none no_hand) f, ap sent_by (no_acts ts hand none no_hand), closes)
+      behind after f to_come d (inr (ends, open_still)) = inr (
+        record { served = r.served.3; readings = r.readings.1; hand_readings = r.hand_readings; ends = ends; follow = f; sends = refl; left = r.left; draws = d },
         open_still,
       )
 
@@ -272,11 +288,12 @@ module _ (base : Base) (n moment word : ℕ) where
   same_refusal acts bcts (front, event, full, is) (other, also, numbers, is_too) same =
       some_same (sym (last_is front event full) ∙ ap last_of (sym is ∙ same ∙ is_too) ∙ last_is other also numbers)
 
-  came_by : (a b : Came) → a.history ≡ b.history → a.written ≡ b.written → a.ended ≡ b.ended → a ≡ b
-  came_by a b h w e =
-      ap (λ x. record { history = x; written = a.written; ended = a.ended }) h
-      ∙ ap (λ x. record { history = b.history; written = x; ended = a.ended }) w
-      ∙ ap (λ x. record { history = b.history; written = b.written; ended = x }) e
+  came_by : (a b : Came) → a.history ≡ b.history → a.sent ≡ b.sent → a.written ≡ b.written → a.ended ≡ b.ended → a ≡ b
+  came_by a b h s w e =
+      ap (λ x. record { history = x; sent = a.sent; written = a.written; ended = a.ended }) h
+      ∙ ap (λ x. record { history = b.history; sent = x; written = a.written; ended = a.ended }) s
+      ∙ ap (λ x. record { history = b.history; sent = b.sent; written = x; ended = a.ended }) w
+      ∙ ap (λ x. record { history = b.history; sent = b.sent; written = b.written; ended = x }) e
 
   abbrev answer_of : Call → List ℕ
   answer_of (asks event next) = []
@@ -290,78 +307,88 @@ module _ (base : Base) (n moment word : ℕ) where
 
   module _ (told : IsSome base.start.planned) where
     -- a message that is over came by the same acts
-    one_way : (m : Message) (acts bcts : List Act) (a b : Call) (h ha hb : List Entry) → Goes (walk m) acts a → Goes (walk m) bcts b
-        → IsOver acts a → IsOver bcts b → Follow base n h acts ha → Follow base n h bcts hb → acts ≡ bcts
-    one_way m acts bcts a b h ha hb g k o p f e =
-        sym (acts_are base n told (walk m) a acts h ha (walk_asks_none m) g o f) ∙ acts_are base n told (walk m) b bcts h hb (walk_asks_none m) k p e
+    one_way : (m : Message) (acts bcts : List Act) (a b : Call) (h ha hb : List Entry) (script left also : List Outcome) → Goes (walk m) acts a → Goes (walk m) bcts b
+        → IsOver acts a → IsOver bcts b → Follow base n h acts ha → Follow base n h bcts hb → Draws script (given_to acts) left → Draws script (given_to bcts) also → acts ≡ bcts
+    one_way m acts bcts a b h ha hb script left also g k o p f e d c =
+        sym (acts_are base n told (walk m) a acts h ha script left g o f d) ∙ acts_are base n told (walk m) b bcts h hb script also k p e c
 
     -- where the session was full at the next message, it was not answered
-    full_or_answered : (number : ℕ) (bytes written : List ℕ) (h end : List Entry) (ended : Ended) (hand : Hand) (t : Turn) (ts : List Turn) (x : Option Hand) (came : Came)
-        → AtFull number bytes written ended hand → IsReadAt (Some moment) (Some word) hand.message → Follow base n h hand.acts end
-        → Step number bytes h t ts x came → ⊥
-    full_or_answered number bytes written h end ended hand t ts x came at read_at f s =
+    full_or_answered : (number : ℕ) (bytes written : List ℕ) (h end : List Entry) (script left : List Outcome) (ended : Ended) (hand : Hand) (t : Turn) (ts : List Turn) (x : Option Hand) (came : Came)
+        → AtFull number bytes written ended hand → IsReadAt (Some moment) (Some word) hand.message → Follow base n h hand.acts end → Draws script (given_to hand.acts) left
+        → Step number bytes h script t ts x came → ⊥
+    full_or_answered number bytes written h end script left ended hand t ts x came at read_at f d s =
         let one = (one_message bytes at.mid s.mid number hand.message t.message at.next s.next at.numbered s.numbered read_at s.read_at).0 in
         let goes : Goes (walk t.message) hand.acts hand.next = subst (λ m. Goes (walk m) hand.acts hand.next) one at.goes in
-        let same = one_way t.message hand.acts t.acts hand.next (answers t.cause t.answer t.closes) h end s.after goes s.goes (inr at.over) (inl tt) f s.follow in
+        let same = one_way t.message hand.acts t.acts hand.next (answers t.cause t.answer t.closes) h end s.after script left s.to_come goes s.goes (inr at.over) (inl tt) f s.follow d s.draws in
         not_answered (walk t.message) at.over.0 at.over.1 at.over.2 t.cause t.answer t.closes
         (subst (λ acts. Goes (walk t.message) acts (answers t.cause t.answer t.closes)) (sym same ∙ at.over.3) s.goes)
 
     -- what follows a message that both have
-    both : (t u : Turn) (ts us : List Turn) (x y : Option Hand) (number : ℕ) (bytes : List ℕ) (h : List Entry) (a b : Came)
-        (p : Step number bytes h t ts x a) (q : Step number bytes h u us y b) → p.mid ≡ q.mid → t.answer ≡ u.answer → t.closes ≡ u.closes → p.after ≡ q.after
-        → ((p.more ≡ []) × (a.ended ≡ Closed) × (a.history ≡ p.after) × (t.closes ≡ true))
-        ⊎ (Rest (number + 1) p.mid p.after ts x (record { history = a.history; written = p.more; ended = a.ended }) × (t.closes ≡ false))
-        → ((q.more ≡ []) × (b.ended ≡ Closed) × (b.history ≡ q.after) × (u.closes ≡ true))
-        ⊎ (Rest (number + 1) q.mid q.after us y (record { history = b.history; written = q.more; ended = b.ended }) × (u.closes ≡ false))
-        → ((c d : Came) → Rest (number + 1) q.mid q.after ts x c → Rest (number + 1) q.mid q.after us y d → c ≡ d)
+    both : (t u : Turn) (ts us : List Turn) (x y : Option Hand) (number : ℕ) (bytes : List ℕ) (h : List Entry) (script : List Outcome) (a b : Came)
+        (p : Step number bytes h script t ts x a) (q : Step number bytes h script u us y b) → p.mid ≡ q.mid → t.answer ≡ u.answer → t.closes ≡ u.closes → p.after ≡ q.after → p.to_come ≡ q.to_come
+        → sent_by t.acts ≡ sent_by u.acts
+        → ((p.more ≡ []) × (a.ended ≡ Closed) × (a.history ≡ p.after) × (p.requests ≡ []) × (t.closes ≡ true))
+        ⊎ (Rest (number + 1) p.mid p.after p.to_come ts x (record { history = a.history; sent = p.requests; written = p.more; ended = a.ended }) × (t.closes ≡ false))
+        → ((q.more ≡ []) × (b.ended ≡ Closed) × (b.history ≡ q.after) × (q.requests ≡ []) × (u.closes ≡ true))
+        ⊎ (Rest (number + 1) q.mid q.after q.to_come us y (record { history = b.history; sent = q.requests; written = q.more; ended = b.ended }) × (u.closes ≡ false))
+        → ((c d : Came) → Rest (number + 1) q.mid q.after q.to_come ts x c → Rest (number + 1) q.mid q.after q.to_come us y d → c ≡ d)
         → a ≡ b
-    both t u ts us x y number bytes h a b p q mid answer closes after (inl (none, ended, history, closed)) (inl (also_none, also_ended, also_history, also_closed)) further =
-        came_by a b (history ∙ after ∙ sym also_history) (p.wrote ∙ ap (λ l. t.answer ++ l) (none ∙ sym also_none) ∙ ap (λ l. l ++ q.more) answer ∙ sym q.wrote) (ended ∙ sym also_ended)
-    both t u ts us x y number bytes h a b p q mid answer closes after (inl (none, ended, history, closed)) (inr (also, open_still)) further = absurd (true_false (sym closes ∙ closed) open_still)
-    both t u ts us x y number bytes h a b p q mid answer closes after (inr (rest, open_still)) (inl (also_none, also_ended, also_history, also_closed)) further =
+    both t u ts us x y number bytes h script a b p q mid answer closes after come requests (inl (none, ended, history, unsent, closed)) (inl (also_none, also_ended, also_history, also_unsent, also_closed)) further =
+        came_by a b (history ∙ after ∙ sym also_history)
+        (p.sends ∙ ap (λ l. sent_by t.acts ++ l) (unsent ∙ sym also_unsent) ∙ ap (λ l. l ++ q.requests) requests ∙ sym q.sends)
+        (p.wrote ∙ ap (λ l. t.answer ++ l) (none ∙ sym also_none) ∙ ap (λ l. l ++ q.more) answer ∙ sym q.wrote) (ended ∙ sym also_ended)
+    both t u ts us x y number bytes h script a b p q mid answer closes after come requests (inl (none, ended, history, unsent, closed)) (inr (also, open_still)) further =
+        absurd (true_false (sym closes ∙ closed) open_still)
+    both t u ts us x y number bytes h script a b p q mid answer closes after come requests (inr (rest, open_still)) (inl (also_none, also_ended, also_history, also_unsent, also_closed)) further =
         absurd (true_false also_closed (sym closes ∙ open_still))
-    both t u ts us x y number bytes h a b p q mid answer closes after (inr (rest, open_still)) (inr (also, also_open)) further =
-        let first : Came = record { history = a.history; written = p.more; ended = a.ended } in
-        let second : Came = record { history = b.history; written = q.more; ended = b.ended } in
-        let here : Rest (number + 1) q.mid q.after ts x first =
-        subst (λ m. Rest (number + 1) m q.after ts x first) mid (subst (λ k. Rest (number + 1) p.mid k ts x first) after rest) in
+    both t u ts us x y number bytes h script a b p q mid answer closes after come requests (inr (rest, open_still)) (inr (also, also_open)) further =
+        let first : Came = record { history = a.history; sent = p.requests; written = p.more; ended = a.ended } in
+        let second : Came = record { history = b.history; sent = q.requests; written = q.more; ended = b.ended } in
+        let here : Rest (number + 1) q.mid q.after q.to_come ts x first =
+        subst (λ m. Rest (number + 1) m q.after q.to_come ts x first) mid
+        (subst (λ k. Rest (number + 1) p.mid k q.to_come ts x first) after (subst (λ o. Rest (number + 1) p.mid p.after o ts x first) come rest)) in
         let same = further first second here also in
-        came_by a b (ap (λ (c : Came). c.history) same) (p.wrote ∙ ap (λ (c : Came). t.answer ++ c.written) same ∙ ap (λ l. l ++ q.more) answer ∙ sym q.wrote) (ap (λ (c : Came). c.ended) same)
+        came_by a b (ap (λ (c : Came). c.history) same)
+        (p.sends ∙ ap (λ (c : Came). sent_by t.acts ++ c.sent) same ∙ ap (λ l. l ++ q.requests) requests ∙ sym q.sends)
+        (p.wrote ∙ ap (λ (c : Came). t.answer ++ c.written) same ∙ ap (λ l. l ++ q.more) answer ∙ sym q.wrote) (ap (λ (c : Came). c.ended) same)
 
-    once : (ts us : List Turn) (x y : Option Hand) (number : ℕ) (bytes : List ℕ) (h : List Entry) (a b : Came)
-        → Rest number bytes h ts x a → Rest number bytes h us y b → a ≡ b
-    once [] [] None None number bytes h a b r s =
+    once : (ts us : List Turn) (x y : Option Hand) (number : ℕ) (bytes : List ℕ) (h : List Entry) (script : List Outcome) (a b : Came)
+        → Rest number bytes h script ts x a → Rest number bytes h script us y b → a ≡ b
+    once [] [] None None number bytes h script a b r s =
         let one = (next_unique r.ends.0 s.ends.0 bytes [] [] r.ends.1 s.ends.1).0 in
         let first : Ended × List ℕ = (a.ended, a.written) in
         let second : Ended × List ℕ = (b.ended, b.written) in
         let parts = both_of first second (some_same (sym r.ends.2 ∙ ap end_for one ∙ s.ends.2)) in
-        came_by a b (r.follow ∙ sym s.follow) parts.1 parts.0
-    once [] [] None (Some hand) number bytes h a b r s = absurd (none_there bytes s.ends.mid a.written hand.message a.ended s.ends.next r.ends)
-    once [] [] (Some hand) None number bytes h a b r s = absurd (none_there bytes r.ends.mid b.written hand.message b.ended r.ends.next s.ends)
-    once [] [] (Some hand) (Some other) number bytes h a b r s =
+        came_by a b (r.follow ∙ sym s.follow) (r.sends ∙ sym s.sends) parts.1 parts.0
+    once [] [] None (Some hand) number bytes h script a b r s = absurd (none_there bytes s.ends.mid a.written hand.message a.ended s.ends.next r.ends)
+    once [] [] (Some hand) None number bytes h script a b r s = absurd (none_there bytes r.ends.mid b.written hand.message b.ended r.ends.next s.ends)
+    once [] [] (Some hand) (Some other) number bytes h script a b r s =
         let one = (one_message bytes r.ends.mid s.ends.mid number hand.message other.message r.ends.next s.ends.next r.ends.numbered s.ends.numbered r.hand_readings s.hand_readings).0 in
         let goes : Goes (walk other.message) hand.acts hand.next = subst (λ m. Goes (walk m) hand.acts hand.next) one r.ends.goes in
-        let same = one_way other.message hand.acts other.acts hand.next other.next h a.history b.history goes s.ends.goes (inr r.ends.over) (inr s.ends.over) r.follow s.follow in
+        let same = one_way other.message hand.acts other.acts hand.next other.next h a.history b.history script r.left s.left goes s.ends.goes (inr r.ends.over) (inr s.ends.over) r.follow s.follow r.draws s.draws in
         let full = sym r.ends.at ∙ same_refusal hand.acts other.acts r.ends.over s.ends.over same ∙ s.ends.at in
-        came_by a b (one_after base n other.acts h a.history b.history (subst (λ acts. Follow base n h acts a.history) same r.follow) s.follow) (r.ends.busy ∙ sym s.ends.busy)
+        came_by a b (one_after base n other.acts h a.history b.history (subst (λ acts. Follow base n h acts a.history) same r.follow) s.follow)
+        (r.sends ∙ ap sent_by same ∙ sym s.sends) (r.ends.busy ∙ sym s.ends.busy)
         (r.ends.ended_so ∙ ap (λ (f : Numbers). SessionFull f.entries f.bytes) full ∙ sym s.ends.ended_so)
-    once [] (u ∷ us) None y number bytes h a b r s = absurd (none_there bytes s.ends.0 a.written u.message a.ended s.ends.2 r.ends)
-    once [] (u ∷ us) (Some hand) y number bytes h a b r s =
-        absurd (full_or_answered number bytes a.written h a.history a.ended hand u us y b r.ends r.hand_readings r.follow (step_of number bytes h u us y b s))
-    once (t ∷ ts) [] x None number bytes h a b r s = absurd (none_there bytes r.ends.0 b.written t.message b.ended r.ends.2 s.ends)
-    once (t ∷ ts) [] x (Some hand) number bytes h a b r s =
-        absurd (full_or_answered number bytes b.written h b.history b.ended hand t ts x a s.ends s.hand_readings s.follow (step_of number bytes h t ts x a r))
-    once (t ∷ ts) (u ∷ us) x y number bytes h a b r s =
-        let p = step_of number bytes h t ts x a r in
-        let q = step_of number bytes h u us y b s in
+    once [] (u ∷ us) None y number bytes h script a b r s = absurd (none_there bytes s.ends.0 a.written u.message a.ended s.ends.2 r.ends)
+    once [] (u ∷ us) (Some hand) y number bytes h script a b r s =
+        absurd (full_or_answered number bytes a.written h a.history script r.left a.ended hand u us y b r.ends r.hand_readings r.follow r.draws (step_of number bytes h script u us y b s))
+    once (t ∷ ts) [] x None number bytes h script a b r s = absurd (none_there bytes r.ends.0 b.written t.message b.ended r.ends.2 s.ends)
+    once (t ∷ ts) [] x (Some hand) number bytes h script a b r s =
+        absurd (full_or_answered number bytes b.written h b.history script s.left b.ended hand t ts x a s.ends s.hand_readings s.follow s.draws (step_of number bytes h script t ts x a r))
+    once (t ∷ ts) (u ∷ us) x y number bytes h script a b r s =
+        let p = step_of number bytes h script t ts x a r in
+        let q = step_of number bytes h script u us y b s in
         let one = one_message bytes p.mid q.mid number t.message u.message p.next q.next p.numbered q.numbered p.read_at q.read_at in
         let goes : Goes (walk u.message) t.acts (answers t.cause t.answer t.closes) = subst (λ m. Goes (walk m) t.acts (answers t.cause t.answer t.closes)) one.0 p.goes in
-        let acts = one_way u.message t.acts u.acts (answers t.cause t.answer t.closes) (answers u.cause u.answer u.closes) h p.after q.after goes q.goes (inl tt) (inl tt) p.follow q.follow in
+        let acts = one_way u.message t.acts u.acts (answers t.cause t.answer t.closes) (answers u.cause u.answer u.closes) h p.after q.after script p.to_come q.to_come goes q.goes (inl tt) (inl tt) p.follow q.follow
+        p.draws q.draws in
         let place = one_place (walk u.message) u.acts (answers t.cause t.answer t.closes) (answers u.cause u.answer u.closes)
         (subst (λ l. Goes (walk u.message) l (answers t.cause t.answer t.closes)) acts goes) q.goes in
         let after = one_after base n u.acts h p.after q.after (subst (λ l. Follow base n h l p.after) acts p.follow) q.follow in
-        both t u ts us x y number bytes h a b p q one.1 (ap answer_of place) (ap closes_of place) after p.then q.then
-        (λ c d f g. once ts us x y (number + 1) q.mid q.after c d f g)
+        let come = one_left (given_to u.acts) script p.to_come q.to_come (subst (λ l. Draws script (given_to l) p.to_come) acts p.draws) q.draws in
+        both t u ts us x y number bytes h script a b p q one.1 (ap answer_of place) (ap closes_of place) after come (ap sent_by acts) p.then q.then
+        (λ c d f g. once ts us x y (number + 1) q.mid q.after q.to_come c d f g)
 
 closed_or_open : (turns : List Turn) (number : ℕ) → AreServed number turns → HasClosed turns ⊎ StaysOpen turns
 closed_or_open [] number served = inr tt
@@ -424,9 +451,9 @@ module _ (base : Base) (n moment word : ℕ) where
   final_of (SessionFull entries bytes) turns (Some hand) rest written left served ends (mid, next, part, wrote, inr cut_off) no_read no_write ample = absurd (no_rise cut_off.0)
   final_of Memory turns hand rest written left served ends writes no_read no_write ample = absurd (ample refl)
 
-  rest_of : (before : List Entry) (bytes : List ℕ) (came : Came) (c : ComesTo base n moment word before bytes came)
-      → Rest base n moment word 1 bytes before c.story.turns c.story.hand came
-  rest_of before bytes came c =
+  rest_of : (before : List Entry) (bytes : List ℕ) (script : List Outcome) (came : Came) (c : ComesTo base n moment word before bytes script came)
+      → Rest base n moment word 1 bytes before script c.story.turns c.story.hand came
+  rest_of before bytes script came c =
       let told = c.tells.bytes in
       let wrote : Writes (Rose 0 0) came.ended c.story.turns c.story.hand told.3.0 came.written c.left =
       subst (λ w. Writes (Rose 0 0) came.ended c.story.turns c.story.hand told.3.0 w c.left) (sym told.1) told.3.2 in
@@ -439,9 +466,12 @@ module _ (base : Base) (n moment word : ℕ) where
             (λ is. no_rise (subst (λ e. HasRisen e (faultless bytes []) (faultless c.left came.written)) is c.tells.risen))
             (λ is. no_rise (subst (λ e. HasRisen e (faultless bytes []) (faultless c.left came.written)) is c.tells.risen)) c.ample);
         follow = follows base n (acts_of c.story) before came.history c.alone c.stands;
+        sends = c.sends;
+        left = c.to_come;
+        draws = c.draws;
       }
 
 pub comes_to_one_thing : ComesToOneThing
-comes_to_one_thing base n moment word before bytes first second told x y =
-    once base n moment word told x.story.turns y.story.turns x.story.hand y.story.hand 1 bytes before first second
-    (rest_of base n moment word before bytes first x) (rest_of base n moment word before bytes second y)
+comes_to_one_thing base n moment word before bytes script first second told x y =
+    once base n moment word told x.story.turns y.story.turns x.story.hand y.story.hand 1 bytes before script first second
+    (rest_of base n moment word before bytes script first x) (rest_of base n moment word before bytes script second y)

@@ -12,10 +12,11 @@ use Rattle.call_facts.specs.declared.request.Request.{Request}
 use Rattle.call_facts.specs.declared.target.Target.{Target}
 use Rattle.std.proofs.lemmas.Grind.{common_steps}
 use Rattle.gate_walk.specs.Acts.{Act, took, refused, sent, Goes, sent_by, given_to, leaves_closing, tell_closing}
-use Rattle.gate_walk.specs.Answering.{made_for}
 use Rattle.gate_walk.specs.Closing.{asks_close, closes, most_messages}
-use Rattle.gate_walk.specs.Walk.{Call, asks, sends, answers, administered, closing_by, leaves, walk, way_to}
+use Rattle.gate_walk.specs.Planning.{planned_for}
+use Rattle.gate_walk.specs.Walk.{Call, asks, sends, answers, administered, closing_by, follows, leaves, walk, way_to}
 use Rattle.gate_walk.specs.declared.message.Message.{Message}
+use Rattle.method_answers.specs.Plans.{Planned, answered, exchanges}
 use Rattle.method_flow.specs.declared.answers.Made.{Made}
 
 -- It holds of each answer that a way may come to, with whether a Leave on it was replied that the session is closing.
@@ -69,9 +70,13 @@ order_closes : (m : Message) (order : Result Command Made) → Each (Closes m) f
 order_closes m (Ok command) = λ reply. leaves_closes m (replied_made reply)
 order_closes m (Err made) = leaves_closes m made
 
+plan_closes : (m : Message) (p : Planned) → Each (Closes m) false (follows m p)
+plan_closes m (answered made) = leaves_closes m made
+plan_closes m (exchanges request next) = λ outcome. leaves_closes m (next outcome)
+
 way_closes : (admin : Bool) (m : Message) (target : Target) → Each (Closes m) false (way_to admin m target)
 way_closes true m target = order_closes m (order_of m.too_large m.request target)
-way_closes false m target = λ reply. leaves_closes m (made_for m.too_large reply m.request target)
+way_closes false m target = λ reply. plan_closes m (planned_for m.too_large reply m.request target)
 
 walk_closes : (m : Message) → Each (Closes m) false (walk m)
 unfolding walk
@@ -87,7 +92,7 @@ AsksNone (asks event next) = (reply : Reply) → AsksNone (next reply)
 AsksNone (sends request next) = ⊥
 AsksNone (answers cause bytes closes) = Unit {0}
 
-none_sent : (acts : List Act) (call after : Call) → AsksNone call → Goes call acts after → (sent_by acts ≡ []) × (given_to acts ≡ [])
+pub none_sent : (acts : List Act) (call after : Call) → AsksNone call → Goes call acts after → (sent_by acts ≡ []) × (given_to acts ≡ [])
 none_sent [] call after h g = (refl, refl)
 none_sent (took event kept reply ∷ acts) (asks e next) after h g = none_sent acts (next reply) after (h reply) g.1
 none_sent (took event kept reply ∷ acts) (sends request next) after h g = absurd g
@@ -99,20 +104,13 @@ none_sent (sent request outcome ∷ acts) (asks e next) after h g = absurd g
 none_sent (sent request outcome ∷ acts) (sends other next) after h g = absurd h
 none_sent (sent request outcome ∷ acts) (answers a b c) after h g = absurd g
 
-order_asks_none : (m : Message) (order : Result Command Made) → AsksNone (administered m order)
+-- neither by a message that leaves, nor by the administration
+pub leaving_asks_none : (m : Message) (made : Made) → AsksNone (leaves m made)
+leaving_asks_none m made = λ left. tt
+
+pub order_asks_none : (m : Message) (order : Result Command Made) → AsksNone (administered m order)
 order_asks_none m (Ok command) = λ reply left. tt
 order_asks_none m (Err made) = λ left. tt
-
-way_asks_none : (admin : Bool) (m : Message) (target : Target) → AsksNone (way_to admin m target)
-way_asks_none true m target = order_asks_none m (order_of m.too_large m.request target)
-way_asks_none false m target = λ reply left. tt
-
-pub walk_asks_none : (m : Message) → AsksNone (walk m)
-unfolding walk
-walk_asks_none m = way_asks_none (is_admin (target_of m.request.target)) m (target_of m.request.target)
-
-pub none_is_sent : (m : Message) (acts : List Act) (after : Call) → Goes (walk m) acts after → (sent_by acts ≡ []) × (given_to acts ≡ [])
-none_is_sent m acts after g = none_sent acts (walk m) after (walk_asks_none m) g
 
 last_stays : (number : ℕ) → number ≤ 1000 → (number == 1000) ≡ false → number + 1 ≤ 1000
 last_stays number h e = grind (arith, common_steps)

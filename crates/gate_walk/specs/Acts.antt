@@ -1,6 +1,7 @@
 -- What is done on a message's way, and how it stands in the history.
-use Rattle.std.specs.Prelude.{◌≡◌, ℕ, ◌==◌, Bool, true, false, List, [], ◌∷◌, ◌++◌, length}
+use Rattle.std.specs.Prelude.{◌≡◌, ℕ, ◌==◌, Bool, true, false, List, [], ◌∷◌, ◌++◌, drop, length, Option, Some, None}
 use Rattle.std.specs.List.{filter, list_any}
+use Rattle.backend_core.specs.Exchanges.{next_of}
 use Rattle.backend_core.specs.declared.outcome.Outcome.{Outcome}
 use Rattle.backend_core.specs.declared.request.WireRequest.{WireRequest}
 use Rattle.book_rules.specs.History.{Base, Answers, is_full, total_size}
@@ -73,6 +74,16 @@ given_to [] = []
 given_to (took event kept reply ∷ acts) = given_to acts
 given_to (refused event full ∷ acts) = given_to acts
 given_to (sent request outcome ∷ acts) = outcome ∷ given_to acts
+
+-- these outcomes are the next of a script, one after another, and this is left of it: past its end each is a failure
+abbrev pub Draws : List Outcome → List Outcome → List Outcome → Type 0
+Draws script [] left = left ≡ script
+Draws script (outcome ∷ outcomes) left = (outcome ≡ next_of script) × Draws (drop 1 script) outcomes left
+
+-- where what is to come is told, the outcomes are drawn from it, and it stays told
+abbrev pub DrawsFrom : Option (List Outcome) → List Outcome → Option (List Outcome) → Type 0
+DrawsFrom None outcomes after = after ≡ None
+DrawsFrom (Some script) outcomes after = (left : List Outcome) × (after ≡ Some left) × Draws script outcomes left
 
 -- a Leave was replied that the session is closing
 abbrev pub leaves_closing : Event → Reply → Bool

@@ -1,7 +1,7 @@
 -- whether a connection closes behind a message
 pub mod Closing
--- the answer to a message, and its cause
-pub mod Answering
+-- what a message comes to
+pub mod Planning
 -- the way of one message through the gateway
 pub mod Walk
 -- what is done on a message's way, and how it stands in the history

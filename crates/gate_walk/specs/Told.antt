@@ -1,11 +1,13 @@
 -- What events and connections come to, where all that is outside of the book is told: what follows is fixed then.
 use Rattle.std.specs.Prelude.{◌≡◌, ◌≢◌, ℕ, Bool, true, not, ◌||◌, List, [], ◌∷◌, ◌++◌, length, Option, Some, None, IsSome, Result, Ok, Err, if◌then◌else◌}
+use Rattle.backend_core.specs.declared.outcome.Outcome.{Outcome}
+use Rattle.backend_core.specs.declared.request.WireRequest.{WireRequest}
 use Rattle.book_rules.specs.History.{Base, is_changing, is_full, keeps, plan_after, reply, total_size}
 use Rattle.book_rules.specs.declared.events.Entry.{Entry}
 use Rattle.book_rules.specs.declared.events.Event.{Event}
 use Rattle.book_rules.specs.declared.replies.Reply.{Reply}
 use Rattle.gate_ports.specs.Facts.{ConnTold}
-use Rattle.gate_walk.specs.Acts.{Stand, entry_of, entries_of}
+use Rattle.gate_walk.specs.Acts.{Draws, Stand, entry_of, entries_of, given_to, sent_by}
 use Rattle.gate_walk.specs.Stories.{Story, Tells, acts_of}
 use Rattle.gate_walk.specs.declared.ended.Ended.{Ended}
 use Rattle.gate_walk.specs.declared.ended.Ended.TheVariants.{Memory}
@@ -41,9 +43,10 @@ taken n base history event =
 abbrev pub IsAlone : ℕ → List Entry → Type 0
 IsAlone n history = entries_of n history ≡ history
 
--- the history behind a connection, all bytes that were written on it, and how it ended
+-- the history behind a connection, the requests that it sent to backends, all bytes that were written on it, and how it ended
 pub record Came : Type 0 where
   pub history : List Entry
+  pub sent : List WireRequest
   pub written : List ℕ
   pub ended : Ended
 
@@ -51,12 +54,17 @@ pub record Came : Type 0 where
 abbrev pub faultless : List ℕ → List ℕ → ConnTold
 faultless left written = record { left = Some left; written = Some written; read_faults = 0; write_faults = 0 }
 
--- What a connection with these bytes comes to behind a history all of whose entries are of one seat, at this moment and with this word:
-pub record ComesTo (base : Base) (n moment word : ℕ) (before : List Entry) (bytes : List ℕ) (came : Came) : Type 0 where
+-- What a connection with these bytes comes to behind a history all of whose entries are of one seat, at this moment and with this
+-- word, where backends give these outcomes, and past their end fail:
+pub record ComesTo (base : Base) (n moment word : ℕ) (before : List Entry) (bytes : List ℕ) (script : List Outcome) (came : Came) : Type 0 where
   -- it has a story,
   pub story : Story
   pub left : List ℕ
   pub tells : Tells (Some moment) (Some word) (faultless bytes []) (faultless left came.written) came.ended story
+  -- whose requests were sent, with these outcomes one after another,
+  pub sends : came.sent ≡ sent_by (acts_of story)
+  pub to_come : List Outcome
+  pub draws : Draws script (given_to (acts_of story)) to_come
   -- whose acts stand in the history with nothing between them,
   pub stands : Stand base n before (acts_of story) came.history
   pub alone : IsAlone n came.history
@@ -66,5 +74,5 @@ pub record ComesTo (base : Base) (n moment word : ℕ) (before : List Entry) (by
 -- Where it is told which calls of the keeper fail, a connection comes to one thing.
 abbrev pub ComesToOneThing : Type 0
 ComesToOneThing =
-    (base : Base) (n moment word : ℕ) (before : List Entry) (bytes : List ℕ) (first second : Came) → IsSome base.start.planned
-    → ComesTo base n moment word before bytes first → ComesTo base n moment word before bytes second → first ≡ second
+    (base : Base) (n moment word : ℕ) (before : List Entry) (bytes : List ℕ) (script : List Outcome) (first second : Came) → IsSome base.start.planned
+    → ComesTo base n moment word before bytes script first → ComesTo base n moment word before bytes script second → first ≡ second

@@ -15,10 +15,11 @@ use Rattle.call_facts.specs.Target.{target_of}
 use Rattle.call_facts.specs.declared.kind.Kind.{Kind}
 use Rattle.call_facts.specs.declared.request.Request.{Request}
 use Rattle.call_facts.specs.declared.target.Target.{Target}
-use Rattle.gate_walk.specs.Answering.{made_for}
 use Rattle.gate_walk.specs.Closing.{closes}
+use Rattle.gate_walk.specs.Planning.{planned_for}
 use Rattle.gate_walk.specs.declared.message.Message.{Message}
 use Rattle.http_edge.specs.Answers.{spelled}
+use Rattle.method_answers.specs.Plans.{Planned, answered as answered_by, exchanges}
 use Rattle.method_flow.specs.declared.answers.Made.{Made}
 
 -- What comes next: a step of the book, and what its reply leads to; an exchange with a backend, and what its outcome leads to; or
@@ -52,9 +53,14 @@ answered m made reply = answers made.cause (spelled made.answer (is_head m.reque
 abbrev pub leaves : Message → Made → Call
 leaves m made = asks (Leave made.answer.status made.cause) (answered m made)
 
+-- what is planned is followed: the answer leaves, or a request is sent, and what its outcome is answered leaves
+abbrev pub follows : Message → Planned → Call
+follows m (answered_by made) = leaves m made
+follows m (exchanges request next) = sends request (λ outcome. leaves m (next outcome))
+
 -- what follows its Enter
 abbrev pub entered : Message → Target → Reply → Call
-entered m target reply = leaves m (made_for m.too_large reply m.request target)
+entered m target reply = follows m (planned_for m.too_large reply m.request target)
 
 abbrev pub walk_to : Message → Target → Call
 walk_to m target = asks (Enter m.moment m.word target.api target.stage) (entered m target)

@@ -1,12 +1,15 @@
 -- What is asked for, the input and the files come to one outcome, and what is written where the program is cut short is a front of it.
-use Rattle.std.proofs.Common.{◌≡◌, inl, inr, ℕ, ◌+◌, Bool, true, false, List, [], ◌∷◌, ◌++◌, Option, Some, None, IsSome, Result, Ok, Err, refl, sym, ap, ◌∙◌, subst, append_assoc}
+use Rattle.std.proofs.Common.{◌≡◌, ◌<◌, ◌⊎◌, inl, inr, arith, ℕ, ◌+◌, ◌==◌, get_or, Bool, true, false, List, [], ◌∷◌, ◌++◌, codes, Option, Some, None, IsSome, Result, Ok, Err, refl, sym, ap, ◌∙◌, subst, append_assoc}
+use Rattle.backend_core.specs.declared.outcome.Outcome.{Outcome as Exchanged}
+use Rattle.backend_core.specs.declared.outcome.Outcome.TheVariants as exchanged
 use Rattle.book_rules.specs.declared.events.Entry.{Entry}
 use Rattle.book_rules.specs.History.{Base}
 use Rattle.call_facts.specs.declared.request.WireReply.{WireReply}
 use Rattle.http_edge.proofs.ReplyUnique.{reply_unique}
+use Rattle.http_edge.specs.Replies.{IsReply}
 use Rattle.http_framing.specs.declared.fault.EdgeFault.{EdgeFault}
 use Rattle.gate_walk.specs.Told.{ComesToOneThing}
-use Rattle.play_script.specs.Calls.{IsWhole, IsOther, IsNoWhole, IsOutcome, IsNoOutcome, AreOutcomes, BreaksOutcomes}
+use Rattle.play_script.specs.Calls.{HasStatus, IsWhole, IsOther, IsNoWhole, IsNoReply, IsOutcome, IsNoOutcome, AreOutcomes, BreaksOutcomes}
 use Rattle.play_script.specs.Coding.{is_passed_over}
 use Rattle.command_words.specs.declared.commands.Command.TheVariants.{Play}
 use Rattle.gateway_cli.specs.Commands.{Outcome, OutcomeFront, HasOneOutcome, FrontsAreOfTheOutcome}
@@ -21,20 +24,64 @@ use Rattle.play_script.specs.declared.turns.End.{End}
 
 -- outcomes
 
-whole_or_not : (field : List ℕ) → IsWhole field → IsNoWhole field → ⊥
-whole_or_not field (reply, is) (read, rest, also, other) =
+abbrev read_as : WireReply → Result WireReply EdgeFault
+read_as reply = Ok reply
+
+one_reply : {x y : WireReply} → read_as x ≡ read_as y → x ≡ y
+one_reply e = cc
+
+whole_once : (field : List ℕ) (a b : WireReply) → IsWhole field a → IsWhole field b → a ≡ b
+whole_once field a b x y = one_reply (reply_unique false (Ok a) (Ok b) field [] [] x.0 y.0).0
+
+whole_or_not : (field : List ℕ) (reply : WireReply) → IsReply false field (Ok reply) [] → IsNoWhole field → ⊥
+whole_or_not field reply is (read, rest, also, other) =
     let one = reply_unique false (Ok reply) read field [] rest is also in
     subst (λ (p : Result WireReply EdgeFault × List ℕ). IsOther p.0 p.1) (ap (λ r. (r, rest)) (sym one.0) ∙ ap (λ x. (Ok reply, x)) (sym one.1)) other refl
 
-outcome_or_not : (field : List ℕ) → IsOutcome field → IsNoOutcome field → ⊥
-outcome_or_not field (inl failed) other = other.0 failed
-outcome_or_not field (inr (inl lapsed)) other = other.1 lapsed
-outcome_or_not field (inr (inr whole)) other = whole_or_not field whole other.2
+strange_or_not : (reply : WireReply) → HasStatus reply → (reply.status < 200) ⊎ (999 < reply.status) → ⊥
+strange_or_not reply (low, high) (inl below) = omega (arith, low, below)
+strange_or_not reply (low, high) (inr above) = omega (arith, high, above)
 
-all_or_not : (fields : List (List ℕ)) → AreOutcomes fields → BreaksOutcomes fields → ⊥
-all_or_not [] are breaks = breaks
-all_or_not (field ∷ fields) are (inl other) = outcome_or_not field are.0 other
-all_or_not (field ∷ fields) are (inr breaks) = all_or_not fields are.1 breaks.1
+reply_or_not : (field : List ℕ) (reply : WireReply) → IsWhole field reply → IsNoReply field → ⊥
+reply_or_not field reply (is, status) (inl none) = whole_or_not field reply is none
+reply_or_not field reply (is, status) (inr (other, also, strange)) =
+    strange_or_not other (subst HasStatus (one_reply (reply_unique false (Ok reply) (Ok other) field [] [] is also).0) status) strange
+
+outcome_or_not : (field : List ℕ) (told : Exchanged) → IsOutcome field told → IsNoOutcome field → ⊥
+outcome_or_not field (exchanged.Reply reply) (unfailed, unlapsed, whole) other = reply_or_not field reply whole other.2
+outcome_or_not field exchanged.Failed failed other = other.0 failed
+outcome_or_not field exchanged.TimedOut lapsed other = other.1 lapsed
+outcome_or_not field exchanged.Memory none other = none
+
+failed_or_lapsed : codes "!failed" ≡ codes "!lapsed" → ⊥
+failed_or_lapsed e = let no : true ≡ false = ap (λ (l : List ℕ). get_or l 1 0 == 102) e in absurd cc
+
+outcome_once : (field : List ℕ) (a b : Exchanged) → IsOutcome field a → IsOutcome field b → a ≡ b
+outcome_once field (exchanged.Reply p) (exchanged.Reply q) (unfailed, unlapsed, x) (also, too, y) = ap exchanged.Reply (whole_once field p q x y)
+outcome_once field (exchanged.Reply p) exchanged.Failed x y = absurd (x.0 y)
+outcome_once field (exchanged.Reply p) exchanged.TimedOut x y = absurd (x.1 y)
+outcome_once field (exchanged.Reply p) exchanged.Memory x y = absurd y
+outcome_once field exchanged.Failed (exchanged.Reply q) x y = absurd (y.0 x)
+outcome_once field exchanged.Failed exchanged.Failed x y = refl
+outcome_once field exchanged.Failed exchanged.TimedOut x y = absurd (failed_or_lapsed (sym x ∙ y))
+outcome_once field exchanged.Failed exchanged.Memory x y = absurd y
+outcome_once field exchanged.TimedOut (exchanged.Reply q) x y = absurd (y.1 x)
+outcome_once field exchanged.TimedOut exchanged.Failed x y = absurd (failed_or_lapsed (sym y ∙ x))
+outcome_once field exchanged.TimedOut exchanged.TimedOut x y = refl
+outcome_once field exchanged.TimedOut exchanged.Memory x y = absurd y
+outcome_once field exchanged.Memory b x y = absurd x
+
+all_once : (fields : List (List ℕ)) (a b : List Exchanged) → AreOutcomes fields a → AreOutcomes fields b → a ≡ b
+all_once [] a b x y = x ∙ sym y
+all_once (field ∷ fields) [] b x y = absurd x
+all_once (field ∷ fields) (p ∷ a) [] x y = absurd y
+all_once (field ∷ fields) (p ∷ a) (q ∷ b) x y = ap (λ t. t ∷ a) (outcome_once field p q x.0 y.0) ∙ ap (λ l. q ∷ l) (all_once fields a b x.1 y.1)
+
+all_or_not : (fields : List (List ℕ)) (script : List Exchanged) → AreOutcomes fields script → BreaksOutcomes fields → ⊥
+all_or_not [] script are breaks = breaks
+all_or_not (field ∷ fields) [] are breaks = are
+all_or_not (field ∷ fields) (told ∷ script) are (inl other) = outcome_or_not field told are.0 other
+all_or_not (field ∷ fields) (told ∷ script) are (inr breaks) = all_or_not fields script are.1 breaks.1
 
 -- what follows a line
 
@@ -64,9 +111,10 @@ behind_front (Some end) text further fronts front a each is none = absurd none
 module _ (law : ComesToOneThing) (base : Base) (told : IsSome base.start.planned) where
   -- lines
 
-  talk_once : (history : List Entry) (moment word : ℕ) (bytes : List ℕ) (a b : Turn) → IsTalk base history moment word bytes a → IsTalk base history moment word bytes b → a ≡ b
-  talk_once history moment word bytes a b (said, connects, is) (other, also, is_too) =
-      is ∙ ap talked (law base 0 moment word history bytes said other told connects also) ∙ sym is_too
+  talk_once : (history : List Entry) (moment word : ℕ) (bytes : List ℕ) (script : List Exchanged) (a b : Turn)
+      → IsTalk base history moment word bytes script a → IsTalk base history moment word bytes script b → a ≡ b
+  talk_once history moment word bytes script a b (said, connects, is) (other, also, is_too) =
+      is ∙ ap talked (law base 0 moment word history bytes script said other told connects also) ∙ sym is_too
 
   does_once : (number : ℕ) (history : List Entry) (found : Record) (a b : Turn) → Does base number history found a → Does base number history found b → a ≡ b
   does_once number history (PutText moment api template) a b x y = x ∙ sym y
@@ -74,11 +122,12 @@ module _ (law : ComesToOneThing) (base : Base) (told : IsSome base.start.planned
   does_once number history (Deploy moment api) a b x y = x ∙ sym y
   does_once number history (PutStage moment api stage deployment variables) a b x y = x ∙ sym y
   does_once number history (Shutdown moment) a b x y = x ∙ sym y
-  does_once number history (Post moment word api stage body) a b x y = talk_once history moment word _ a b x y
-  does_once number history (Call moment word bytes outcomes) a b (inl x) (inl y) = talk_once history moment word bytes a b x.1 y.1
-  does_once number history (Call moment word bytes outcomes) a b (inl x) (inr y) = absurd (all_or_not outcomes x.0 y.0)
-  does_once number history (Call moment word bytes outcomes) a b (inr x) (inl y) = absurd (all_or_not outcomes y.0 x.0)
-  does_once number history (Call moment word bytes outcomes) a b (inr x) (inr y) = x.1 ∙ sym y.1
+  does_once number history (Post moment word api stage body) a b x y = talk_once history moment word _ [] a b x y
+  does_once number history (Call moment word bytes fields) a b (inl x) (inl y) =
+      talk_once history moment word bytes y.0 a b (subst (λ script. IsTalk base history moment word bytes script a) (all_once fields x.0 y.0 x.1 y.1) x.2) y.2
+  does_once number history (Call moment word bytes fields) a b (inl x) (inr y) = absurd (all_or_not fields x.0 x.1 y.0)
+  does_once number history (Call moment word bytes fields) a b (inr x) (inl y) = absurd (all_or_not fields y.0 y.1 x.0)
+  does_once number history (Call moment word bytes fields) a b (inr x) (inr y) = x.1 ∙ sym y.1
 
   found_once : (number : ℕ) (history : List Entry) (found : Result Record LineFault) (a b : Turn) → DoesOrNot base number history found a → DoesOrNot base number history found b → a ≡ b
   found_once number history (Ok found) a b x y = does_once number history found a b x y

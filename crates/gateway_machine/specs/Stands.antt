@@ -1,10 +1,9 @@
 -- What contracts see of the machine, and of its ports.
 use Rattle.std.specs.Prelude.{◌≡◌, ℕ, nat_lt, Bool, false, List}
 use Rattle.gw_base.specs.declared.readings.SplitMix.{SplitMix}
-use Rattle.backend_core.specs.Script.{BackendFacts}
 use Rattle.gate_ports.specs.declared.gate.FreeGate.{FreeGate}
 use Rattle.gate_ports.specs.declared.lane.Lane.{Lane}
-use Rattle.gateway_outside.specs.Stands.{PortStand}
+use Rattle.gateway_outside.specs.Stands.{BackendCounts, PortStand}
 
 -- the names of the stores whose keepers are lent, the one that was lent last first; how many lanes are lent; and how often it has failed
 pub record MachineStand : Type 0 where
@@ -19,7 +18,7 @@ pub record Counted (P : Type 0) : Type 0 where
 
 -- a lane over sockets, whose times are of this type
 abbrev pub SocketLane : Type 0 → Type 0
-SocketLane T = Lane (Counted PortStand) BackendFacts T SplitMix FreeGate
+SocketLane T = Lane (Counted PortStand) BackendCounts T SplitMix FreeGate
 
 -- of a lane the port was not shut, has no connection out, and no look at it has failed
 abbrev pub IsUnusedLane : {T : Type 0} → SocketLane T → Type 0

@@ -1,7 +1,7 @@
 //! The machine as the program meets it: its input and its output, its files, and the lanes that it serves.
 //!
 //! * [`MachineOutside`] is the machine as an [`Outside`](outside_core::Outside): files by their paths, lanes over sockets of
-//!   the loopback, and the keepers of its stores. It says on one line where it listens.
+//!   the loopback, their backends too, and the keepers of its stores. It says on one line where it listens.
 //! * [`Stores`] is what opens a store by its name. [`CountedPort`] is a port of a lane, whose failed looks can be counted.
 //! * [`ReaderSource`] and [`WriterSink`] are an input and an output over any reader and writer of std.
 //!

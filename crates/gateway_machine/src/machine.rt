@@ -10,9 +10,10 @@ ghost use Rattle.outside_core.specs.Lending.{RoseWhere};
 use crate::adapters::{ReaderSource, WriterSink};
 use crate::port::CountedPort;
 use crate::stores::Stores;
-use backend_core::MemBackend;
 use gate_ports::{Archive, FreeGate, Lane, Means};
-use gateway_outside::{ListenFault, SocketPort, SystemClock, announce, begin_words, listen};
+use gateway_outside::{
+    ListenFault, SocketBackend, SocketPort, SystemClock, announce, begin_words, listen,
+};
 use gw_base::{Clock as Moments, Memory, ReadAll, SplitMix, Text, read_all, write_all};
 use outside_core::{KeeperStart, Outside, OutsideFault};
 use std::alloc::{AllocError, Global};
@@ -25,7 +26,7 @@ use std::time::Clock;
 /// A lane over sockets of the loopback.
 type SocketLane<'r, R> = Lane<
     CountedPort<SocketPort<'r, R>>,
-    MemBackend,
+    SocketBackend<'r, R>,
     SystemClock<'r, R>,
     SplitMix,
     FreeGate,
@@ -88,19 +89,14 @@ impl<'r, R, S: Drop, W: Write + Drop> MachineOutside<'r, R, S, W> {
     }
 }
 
-fn lane_of<'r, R: Clock>(
-    rt: &'r R,
-    alloc: Global,
-    port: SocketPort<'r, R>,
-    words: SplitMix,
-) -> SocketLane<'r, R>
+fn lane_of<'r, R: Clock>(rt: &'r R, port: SocketPort<'r, R>, words: SplitMix) -> SocketLane<'r, R>
     requires { IsFresh port }
     ensures { IsUnusedLane result }
 {
     Lane {
         port: CountedPort::new(port),
         means: Means {
-            backend: MemBackend::new(alloc, Vec::new(alloc)),
+            backend: SocketBackend::new(rt),
             clock: SystemClock::new(rt),
             words,
             gate: FreeGate,
@@ -124,7 +120,7 @@ fn lanes_over<'r, R: Clock>(
     let mut lanes = Vec::new(alloc);
     let mut number: u32 = 0;
     for port in ports {
-        lanes.push(lane_of(rt, alloc, port, begin_words(moment, number)))?;
+        lanes.push(lane_of(rt, port, begin_words(moment, number)))?;
         number = number.wrapping_add(1);
     }
     Ok(lanes)
@@ -161,7 +157,7 @@ impl<
 
     type Door = CountedPort<SocketPort<'r, R>>;
 
-    type Back = MemBackend;
+    type Back = SocketBackend<'r, R>;
 
     type Time = SystemClock<'r, R>;
 

@@ -19,3 +19,8 @@ pub record PortStand : Type 0 where
 -- it was not shut, no connection is out, and no look has failed
 abbrev pub IsFresh : PortStand → Type 0
 IsFresh port = port ≡ record { closed = false; out = false; faults = 0 }
+
+-- a backend: how often an exchange has failed, and how often time has lapsed
+pub record BackendCounts : Type 0 where
+  pub faults : ℕ
+  pub lapses : ℕ

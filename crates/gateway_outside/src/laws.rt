@@ -1,4 +1,5 @@
 //! What may go to another thread.
+use crate::backend::SocketBackend;
 use crate::clock::SystemClock;
 use crate::conn::SocketConn;
 use crate::port::SocketPort;
@@ -20,4 +21,9 @@ pub fn a_connection_may_cross_threads<'r, R: Clock + Sync>(conn: &SocketConn<'r,
 /// So may a port.
 pub fn a_port_may_cross_threads<'r, R: Clock + Sync>(port: &SocketPort<'r, R>) {
     send(port);
+}
+
+/// So may a backend.
+pub fn a_backend_may_cross_threads<'r, R: Sync>(backend: &SocketBackend<'r, R>) {
+    send(backend);
 }

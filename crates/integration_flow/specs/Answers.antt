@@ -12,42 +12,23 @@ use Rattle.call_facts.specs.declared.request.WireReply.{WireReply}
 use Rattle.call_facts.specs.declared.target.Target.{Target}
 use Rattle.gateway_answers.specs.Headers.{may_be_written}
 use Rattle.gateway_vars.specs.Held.{Held, replied}
-use Rattle.gateway_vars.specs.Meanings.{meanings_of}
-use Rattle.gateway_vars.specs.Overriding.{nothing, overridden}
+use Rattle.gateway_vars.specs.Overriding.{nothing}
 use Rattle.gateway_vars.specs.declared.changes.Overrides.{Overrides}
 use Rattle.gateway_vars.specs.declared.slots.Side.TheVariants as sides
 use Rattle.gw_base.specs.Names.{is_digit}
 use Rattle.integration_flow.specs.Headers.{mapped, typed, written_over}
+use Rattle.integration_flow.specs.Rendering.{rendered}
 use Rattle.integration_flow.specs.Stopping.{Flow}
 use Rattle.integration_flow.specs.declared.written.Written.{Written}
 use Rattle.integration_flow.specs.declared.stops.FlowStop.TheVariants.{Config}
 use Rattle.method_checks.specs.MediaTypes.{media_type}
-use Rattle.method_flow.specs.Answers.{budget}
 use Rattle.resource_tree.specs.Parameters.{value_at}
 use Rattle.resource_tree.specs.declared.found.Found.{Found}
-use Rattle.vtl_eval.specs.Meaning.{rendering}
-use Rattle.vtl_eval.specs.Roots.{Kept}
-use Rattle.vtl_eval.specs.declared.stop.Rendered.{Rendered}
-use Rattle.vtl_eval.specs.declared.stop.Stop.{Stop}
-use Rattle.vtl_grammar.specs.Expanded.{expanded}
-use Rattle.vtl_grammar.specs.Templates.{tree_of}
-
--- what a render comes to: its text, and what it wrote over; where it stops, the API is configured badly
-abbrev pub written_by : Result (Rendered × Kept) (Stop × Kept) → Flow Written
-written_by (Ok made) = Ok (record { body = made.0.text; overrides = overridden sides.Response made.1 })
-written_by (Err met) = Err Config
-
--- the run of a template over a reply
-unfoldable pub run : Held → List ℕ → Result (Rendered × Kept) (Stop × Kept)
-run held template = rendering budget (meanings_of sides.Response held) (expanded (tree_of template)) []
-
-abbrev pub rendered : Held → List ℕ → Flow Written
-rendered held template = written_by (run held template)
 
 -- without a template the reply's body is passed on
 abbrev pub written : Held → WireReply → Option (List ℕ) → Flow Written
 written held reply None = Ok (record { body = reply.body; overrides = nothing })
-written held reply (Some template) = rendered held template
+written held reply (Some template) = rendered sides.Response held template
 
 -- a status from 200 to 599, of three digits
 unfoldable pub status_in : List ℕ → Option ℕ

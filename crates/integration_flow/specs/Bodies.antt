@@ -1,4 +1,4 @@
--- The texts that paths select of a reply's body.
+-- The texts that paths select of a body.
 use Rattle.std.specs.Prelude.{ℕ, List, [], ◌∷◌, Option, Some, None, if◌then◌else◌}
 use Rattle.std.specs.Option.{unwrap_or}
 use Rattle.gateway_vars.specs.Documents.{all_texts, document, node_text}

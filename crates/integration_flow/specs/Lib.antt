@@ -2,7 +2,7 @@
 pub mod Choosing
 -- what holds of that
 pub mod Laws
--- the texts that paths select of a reply's body
+-- the texts that paths select of a body
 pub mod Bodies
 -- the values of the sources of a rule's mappings
 pub mod Values
@@ -10,7 +10,11 @@ pub mod Values
 pub mod Headers
 -- why no answer is made
 pub mod Stopping
+-- what a template comes to
+pub mod Rendering
 -- what a client is answered
 pub mod Answers
--- what an integration without a backend answers
+-- the body that an integration prepares
+pub mod Preparing
+-- what an integration without a backend tells
 pub mod Mocking

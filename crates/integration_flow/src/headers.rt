@@ -23,7 +23,8 @@ fn is_value_byte(b: u8) -> bool
     (b >= 32 && b != 127) || b == 9
 }
 
-fn are_value_bytes(bytes: &[u8]) -> bool
+/// Whether these bytes may be a field's value: no control character but the tab is among them (RFC 9110, section 5.5).
+pub fn are_value_bytes(bytes: &[u8]) -> bool
     ensures { result ≡ list_all is_value_byte_of bytes.now }
 {
     bytes.iter().all(|b| is_value_byte(*b))

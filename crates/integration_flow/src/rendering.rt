@@ -3,7 +3,9 @@ ghost use Rattle.std.specs.Prelude.{◌≡◌, ◌≢◌, [], Ok, Err, IfOk, IfE
 ghost use Rattle.std.specs.Option.{option_map};
 ghost use Rattle.gateway_vars.specs.Meanings.{response_held, response_kept};
 ghost use Rattle.gateway_vars.specs.Overriding.{nothing as no_changes};
-ghost use Rattle.integration_flow.specs.Answers.{rendered as rendered_of, run as run_of, written as written_of};
+ghost use Rattle.integration_flow.specs.Answers.{written as written_of};
+ghost use Rattle.gateway_vars.specs.declared.slots.Side.TheVariants as sides;
+ghost use Rattle.integration_flow.specs.Rendering.{rendered as rendered_of, run as run_of};
 ghost use Rattle.integration_flow.specs.Stopping.{Flows};
 
 use crate::stops::FlowStop;
@@ -16,7 +18,8 @@ use std::alloc::Global;
 use vtl_eval::{Rendered, Stop, render};
 use vtl_reader::Template;
 
-fn nothing(alloc: Global) -> Overrides
+/// Nothing is written over.
+pub fn nothing(alloc: Global) -> Overrides
     ensures { result ≡ no_changes }
 {
     Overrides {
@@ -28,16 +31,17 @@ fn nothing(alloc: Global) -> Overrides
 }
 
 // The text of a template over a reply, within the budget of all renders.
-#[tactic(auto, unfolding(crate::specs::Answers::run))]
+#[tactic(auto, unfolding(crate::specs::Rendering::run))]
 fn run(alloc: Global, template: &Template, roots: &mut ResponseRoots) -> Result<Rendered, Stop>
     requires { response_kept roots.old ≡ [] }
-    ensures made { IfOk result (λ rendered. run_of (response_held roots.old) template.now ≡ Ok (rendered, response_kept roots.new)) }
-    ensures stop { IfErr result (λ stop. stop ≢ Stop.Memory → run_of (response_held roots.old) template.now ≡ Err (stop, response_kept roots.new)) }
+    ensures made { IfOk result (λ rendered. run_of sides.Response (response_held roots.old) template.now ≡ Ok (rendered, response_kept roots.new)) }
+    ensures stop { IfErr result (λ stop. stop ≢ Stop.Memory → run_of sides.Response (response_held roots.old) template.now ≡ Err (stop, response_kept roots.new)) }
 {
     render(alloc, template, roots, BUDGET)
 }
 
-fn rendered_text(rendered: Rendered) -> Bytes
+/// The text of a render.
+pub fn rendered_text(rendered: Rendered) -> Bytes
     ensures { result ≡ rendered.text }
 {
     Bytes::of(rendered.text.into_inner().into_bytes())
@@ -46,7 +50,7 @@ fn rendered_text(rendered: Rendered) -> Bytes
 // The text of a template, and what it writes over.
 fn rendered(alloc: Global, template: &Template, roots: ResponseRoots) -> Result<Written, FlowStop>
     requires { response_kept roots ≡ [] }
-    ensures { Flows (rendered_of (response_held roots.entry) template.now) result }
+    ensures { Flows (rendered_of sides.Response (response_held roots.entry) template.now) result }
 {
     let mut roots = roots;
     match run(alloc, template, &mut roots) {

@@ -10,8 +10,8 @@ use std::alloc::{AllocError, AllocFailed};
 pub enum FlowStop {
     /// `UNSUPPORTED_MEDIA_TYPE`: no template stands for the body's media type, and the body may not be passed on.
     Media,
-    /// `API_CONFIGURATION_ERROR`: a render stops by a limit, a header may not be written, a status is none, or no response
-    /// rule is for the status.
+    /// `API_CONFIGURATION_ERROR`: a render stops by a limit, a name or a value may not be written, a status is none, no response
+    /// rule is for the status, or a `uri` is none with its values.
     Config,
     /// Memory is wanting.
     Memory,

@@ -4,7 +4,6 @@ ghost use Rattle.std.specs.Borrow.{Bor};
 ghost use Rattle.std.specs.List.{slice_split};
 ghost use Rattle.call_facts.specs.Pairs.{header_value as reply_header};
 ghost use Rattle.gateway_answers.specs.Values.{dotted, text_unless_null};
-ghost use Rattle.gateway_vars.specs.Held.{root as root_of};
 ghost use Rattle.gateway_vars.specs.Meanings.{response_held};
 ghost use Rattle.integration_flow.specs.Values.{value_of as value_of_source};
 ghost use Rattle.vtl_eval.specs.Roots.{name as name_step};
@@ -51,8 +50,9 @@ fn text_of(alloc: Global, value: &Value) -> Result<Option<Text>, Memory>
     }
 }
 
-fn context_text(alloc: Global, roots: &ResponseRoots, name: &str) -> Result<Option<Text>, Memory>
-    ensures { IfOk result (λ text. text ≡ text_unless_null (root_of (response_held roots.now) Root.Context (dotted name.now))) }
+/// The text of `context.X` over these roots, by the dotted name X; `None` where it is null.
+pub fn context_text<R: Roots>(alloc: Global, roots: &R, name: &str) -> Result<Option<Text>, Memory>
+    ensures { IfOk result (λ text. text ≡ text_unless_null ((R.meanings roots.now).value Root.Context (dotted name.now))) }
 {
     let names = names_in(alloc, name)?;
     let steps = steps_of(alloc, &names)?;
@@ -60,8 +60,9 @@ fn context_text(alloc: Global, roots: &ResponseRoots, name: &str) -> Result<Opti
     text_of(alloc, &value)
 }
 
-fn variable_text(alloc: Global, roots: &ResponseRoots, name: &str) -> Result<Option<Text>, Memory>
-    ensures { IfOk result (λ text. text ≡ text_unless_null (root_of (response_held roots.now) Root.StageVariables (name_step name.now ∷ []))) }
+/// The text of a stage variable over these roots; `None` where it is null.
+pub fn variable_text<R: Roots>(alloc: Global, roots: &R, name: &str) -> Result<Option<Text>, Memory>
+    ensures { IfOk result (λ text. text ≡ text_unless_null ((R.meanings roots.now).value Root.StageVariables (name_step name.now ∷ []))) }
 {
     let step = [step_of(alloc, name)?];
     let value = roots.get(alloc, Root::StageVariables, &step)?;

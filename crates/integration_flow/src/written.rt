@@ -1,8 +1,8 @@
-// What a response rule makes of a reply.
+// What a template makes.
 use gateway_vars::Overrides;
 use gw_base::Bytes;
 
-/// The body of an answer, and what its template wrote over.
+/// The body of a message, and what its template wrote over.
 #[derive(Drop)]
 pub struct Written {
     pub body: Bytes,

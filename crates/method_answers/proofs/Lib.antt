@@ -1,0 +1,4 @@
+-- answers that name no cause
+mod Free
+-- the causes that answers name
+pub mod Causes

@@ -1,24 +1,48 @@
-//! The answer to a request for an API that is a document: its route, its parameters and its body are looked at in turn, and
-//! the first that fails is answered by the gateway itself.
+//! What a call of an API that is a document comes to: its route, its parameters and its body are looked at in turn, and the first
+//! that fails is answered by the gateway itself; behind them its method's integration answers, or asks a backend.
 //!
 //! ```text
-//! let made = answer_method(alloc, &api, &request, &target, facts)?;    // 400, x-gateway-cause: BAD_REQUEST_PARAMETERS
+//! match plan_method(alloc, &api, &request, &target, facts)? {
+//!     Plan::Answered(made) => ..                          // 400, x-gateway-cause: BAD_REQUEST_PARAMETERS
+//!     Plan::Asks(exchange) => {
+//!         let outcome = backend.exchange(alloc, &exchange.request);
+//!         let made = exchange.answer(alloc, &outcome)?;   // 504, x-gateway-cause: INTEGRATION_TIMEOUT, where time lapsed
+//!     }
+//! }
 //! ```
 //!
-//! | Request | Answer, where the API has no rules |
+//! | Call | Comes to, where the API has no rules |
 //! |---|---|
 //! | of a path that no resource has, or of a verb that the resource has not | 403, `MISSING_AUTHENTICATION_TOKEN` |
 //! | that lacks the required `shop` and `X-A`, whatever its body | 400, `BAD_REQUEST_PARAMETERS`, `Missing required request parameters: [shop, X-A]` |
 //! | whose body its model refuses | 400, `BAD_REQUEST_BODY`, `Invalid request body` |
-//! | that passes all of these | 500, `API_CONFIGURATION_ERROR`: no method is integrated yet |
+//! | of a `MOCK` whose prepared body tells 404 | the answer of the response rule for 404 |
+//! | for whose body's media type no template stands, where it may not be passed on | 415, `UNSUPPORTED_MEDIA_TYPE` |
+//! | whose template stops, whose `uri` is none with its values, or that maps a header with a line feed | 500, `API_CONFIGURATION_ERROR` |
+//! | of an `HTTP` or `HTTP_PROXY` method else | an exchange |
 //!
-//! Each is made by `gateway_answers`, so that the rules of the API change its status, headers and body. `$context.resourcePath`
-//! is the empty text before a route is found, and the resource's path behind it.
+//! | Outcome of the exchange | Answer |
+//! |---|---|
+//! | a reply | by the response rule for its status; of `HTTP_PROXY`, as it replied, without what concerns one connection alone |
+//! | a reply for whose status no rule is | 500, `API_CONFIGURATION_ERROR` |
+//! | a failure, a lapse of time | 504, `INTEGRATION_FAILURE`, `INTEGRATION_TIMEOUT` |
 //!
-//! What is promised, for every definition, request, target and all facts: [`answer_method`] is `method_made` of
-//! `specs/Answers.antt`. Want of memory alone has no cause. Left out: authorizers, keys and integrations.
+//! The gateway's own answers are made by `gateway_answers`, so that the rules of the API change their status, headers and body.
+//! `$context.resourcePath` is the empty text before a route is found, and the resource's path behind it.
+//!
+//! What is promised, for every definition, request, target and all facts: [`plan_method`] is `planned` of `specs/Plans.antt`, and
+//! [`Exchange::answer`] is `outcome_made` of `specs/Outcomes.antt`. Want of memory alone has no cause. As a law ([`laws`]), each of
+//! these answers names the one cause that it has, and one without a cause names none, whatever a backend replied. Left out:
+//! authorizers and keys.
 #![tactic(auto)]
 
-mod answering;
+mod calls;
+mod failing;
+pub mod laws;
+mod outcomes;
+mod planning;
+mod plans;
 
-pub use answering::answer_method;
+pub use calls::RoutedCall;
+pub use planning::plan_method;
+pub use plans::{Exchange, Plan};

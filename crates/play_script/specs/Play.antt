@@ -2,6 +2,7 @@
 use Rattle.std.specs.Prelude.{◌≡◌, ◌⊎◌, ℕ, ◌+◌, ◌==◌, ◌||◌, nat_lt, List, [], ◌∷◌, ◌++◌, length, codes, Option, Some, None, Result, Ok, Err, Bool, true, false, if◌then◌else◌}
 use Rattle.std.specs.Io.KnownBytes.{Appends}
 use Rattle.api_model.specs.Definition.{document, text}
+use Rattle.backend_core.specs.declared.outcome.Outcome.{Outcome}
 use Rattle.gw_base.specs.Feed.{is_listed}
 use Rattle.book_rules.specs.History.{Base}
 use Rattle.book_rules.specs.declared.events.Limits.{Limits}
@@ -51,16 +52,16 @@ put base number history moment api (Err fault) = refused number history fault
 
 -- what a connection came to
 abbrev pub talked : Came → Turn
-talked came = record { history = came.history; text = connection_lines came.written came.ended; ends = end_of came.ended }
+talked came = record { history = came.history; text = connection_lines came.sent came.written came.ended; ends = end_of came.ended }
 
--- a connection with these bytes
-abbrev pub IsTalk : Base → List Entry → ℕ → ℕ → List ℕ → Turn → Type 0
-IsTalk base history moment word bytes now = (came : Came) × ComesTo base 0 moment word history bytes came × (now ≡ talked came)
+-- a connection with these bytes, whose exchanges with backends come to these outcomes
+abbrev pub IsTalk : Base → List Entry → ℕ → ℕ → List ℕ → List Outcome → Turn → Type 0
+IsTalk base history moment word bytes script now = (came : Came) × ComesTo base 0 moment word history bytes script came × (now ≡ talked came)
 
--- a connection whose outcomes have their form, or a line that is refused
+-- a connection whose fields tell outcomes, or a line that is refused
 abbrev pub IsCall : Base → ℕ → List Entry → ℕ → ℕ → List ℕ → List (List ℕ) → Turn → Type 0
-IsCall base number history moment word bytes outcomes now =
-    (AreOutcomes outcomes × IsTalk base history moment word bytes now) ⊎ (BreaksOutcomes outcomes × (now ≡ refused number history BadRecord))
+IsCall base number history moment word bytes fields now =
+    ((script : List Outcome) × AreOutcomes fields script × IsTalk base history moment word bytes script now) ⊎ (BreaksOutcomes fields × (now ≡ refused number history BadRecord))
 
 -- what a record does
 abbrev pub Does : Base → ℕ → List Entry → Record → Turn → Type 0
@@ -70,7 +71,7 @@ Does base number history (Deploy moment api) now = now ≡ commanded base histor
 Does base number history (PutStage moment api stage deployment variables) now =
     now ≡ commanded base history moment (command.PutStage api stage deployment (record { pairs = variables }))
 Does base number history (Shutdown moment) now = now ≡ commanded base history moment command.Shutdown
-Does base number history (Post moment word api stage body) now = IsTalk base history moment word (post_bytes api stage body) now
+Does base number history (Post moment word api stage body) now = IsTalk base history moment word (post_bytes api stage body) [] now
 Does base number history (Call moment word bytes outcomes) now = IsCall base number history moment word bytes outcomes now
 
 abbrev pub DoesOrNot : Base → ℕ → List Entry → Result Record LineFault → Turn → Type 0

@@ -6,7 +6,7 @@ ghost use Rattle.play_script.specs.Play.{commanded as commanded_of, put as put_o
 use crate::connections::{post_bytes, talk};
 use crate::definitions::{take_document, take_text};
 use crate::fields::is_passed_over;
-use crate::outcomes::are_outcomes;
+use crate::outcomes::read_outcomes;
 use crate::printed::{full_line, refused_line, reply_line};
 use crate::reading::record_in;
 use crate::records::{LineFault, Record};
@@ -111,10 +111,9 @@ fn call<R: Wait>(
     ensures does { IfOk result (λ said. IsCall session.old.base number session.old.history reading.moment reading.word bytes.now outcomes.now (record { history = session.new.history; text = said.text; ends = said.ends })) }
     ensures base { session.new.base ≡ session.old.base }
 {
-    if are_outcomes(alloc, outcomes)? {
-        talk(session, alloc, reading, bytes)
-    } else {
-        refuse(alloc, number, LineFault::BadRecord)
+    match read_outcomes(alloc, outcomes)? {
+        Some(outcomes) => talk(session, alloc, reading, bytes, outcomes),
+        None => refuse(alloc, number, LineFault::BadRecord),
     }
 }
 
@@ -167,6 +166,7 @@ fn carry_out<R: Wait>(
                 alloc,
                 Reading { moment, word },
                 bytes.as_str().as_bytes(),
+                Vec::new(alloc),
             )
         }
         Record::Call {

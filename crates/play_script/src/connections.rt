@@ -1,11 +1,14 @@
 // The connections of a script: their bytes, and their lines.
-ghost use Rattle.std.specs.Prelude.{◌≡◌, IfOk};
-ghost use Rattle.play_script.specs.Calls.{post_target as post_target_of, post_fields as post_fields_of, post_bytes as post_bytes_of, answer_line as answer_line_of, full_lines as full_lines_of, connection_lines as connection_lines_of, end_of as end_of_connection};
+ghost use Rattle.std.specs.Prelude.{◌≡◌, ◌++◌, All, map, IfOk, OnOk};
+ghost use Rattle.std.specs.String.{string_bytes};
+ghost use Rattle.backend_core.specs.Script.{HasReplyStatus, outcome_of};
+ghost use Rattle.play_script.specs.Calls.{post_target as post_target_of, post_fields as post_fields_of, post_bytes as post_bytes_of, answer_line as answer_line_of, full_lines as full_lines_of, connection_lines as connection_lines_of, sent_line as sent_line_of, sent_lines as sent_lines_of, end_of as end_of_connection};
 ghost use Rattle.play_script.specs.Play.{IsTalk};
 
 use crate::joining::join;
 use crate::printed::full_line;
 use crate::turns::{End, Said};
+use backend_core::{Scripted, WireRequest};
 use gw_base::{Memory, Text};
 use play_session::{Ended, Reading, Session, SessionFull};
 use record_fields::encode;
@@ -45,6 +48,25 @@ pub fn post_bytes(alloc: Global, api: &str, stage: &str, body: &str) -> Result<T
     Ok(Text::of(text))
 }
 
+// The line of a request that was sent to a backend.
+fn sent_line(alloc: Global, request: &WireRequest) -> Result<Text, Memory>
+    ensures { IfOk result (λ line. line ≡ sent_line_of request.now) }
+{
+    let bytes = encode(alloc, request.bytes.as_slice())?;
+    join(alloc, &["sent ", bytes.as_str(), "\n"])
+}
+
+fn sent_lines(alloc: Global, requests: &[WireRequest]) -> Result<Text, Memory>
+    ensures { IfOk result (λ lines. lines ≡ sent_lines_of requests.now) }
+{
+    let mut lines = String::new(alloc);
+    for request in requests {
+        let line = sent_line(alloc, request)?;
+        lines.push_str(line.as_str())?;
+    }
+    Ok(Text::of(lines))
+}
+
 // All bytes that were written, where there are any.
 fn answer_line(alloc: Global, written: &[u8]) -> Result<Text, Memory>
     ensures { IfOk result (λ line. line ≡ answer_line_of written.now) }
@@ -69,15 +91,22 @@ fn full_lines(alloc: Global, ended: Ended) -> Result<Text, Memory>
 }
 
 #[tactic(auto, unfolding(crate::specs::Calls::connection_lines))]
-fn connection_lines(alloc: Global, written: &[u8], ended: Ended) -> Result<Text, Memory>
-    ensures { IfOk result (λ lines. lines ≡ connection_lines_of written.now ended) }
+fn connection_lines(
+    alloc: Global,
+    requests: &[WireRequest],
+    written: &[u8],
+    ended: Ended,
+) -> Result<Text, Memory>
+    ensures { IfOk result (λ lines. lines ≡ connection_lines_of requests.now written.now ended) }
 {
+    let sent = sent_lines(alloc, requests)?;
     let answer = answer_line(alloc, written)?;
     let name = ended.to_string(alloc)?;
     let full = full_lines(alloc, ended)?;
     join(
         alloc,
         &[
+            sent.as_str(),
             answer.as_str(),
             "ended ",
             name.as_str(),
@@ -98,19 +127,27 @@ fn end_of(ended: Ended) -> Option<End>
     }
 }
 
-/// Serves a connection, and prints what was written on it and how it ended.
+/// Serves a connection, whose exchanges with backends come to these outcomes, and prints what was sent to these, what was written
+/// on it, and how it ended.
 pub fn talk<R: Wait>(
     session: &mut Session<'_, R>,
     alloc: Global,
     reading: Reading,
     bytes: &[u8],
+    outcomes: Vec<Scripted>,
 ) -> Result<Said, Memory>
-    ensures does { IfOk result (λ said. IsTalk session.old.base session.old.history reading.moment reading.word bytes.now (record { history = session.new.history; text = said.text; ends = said.ends })) }
+    requires statuses { All HasReplyStatus outcomes.items }
+    ensures does { IfOk result (λ said. IsTalk session.old.base session.old.history reading.moment reading.word bytes.now (map outcome_of outcomes.items) (record { history = session.new.history; text = said.text; ends = said.ends })) }
     ensures base { session.new.base ≡ session.old.base }
 {
-    let talk = session.connect(alloc, reading, bytes)?;
+    let talk = session.connect(alloc, reading, bytes, outcomes)?;
     Ok(Said {
-        text: connection_lines(alloc, talk.written.as_slice(), talk.ended)?,
+        text: connection_lines(
+            alloc,
+            talk.sent.as_slice(),
+            talk.written.as_slice(),
+            talk.ended,
+        )?,
         ends: end_of(talk.ended),
     })
 }

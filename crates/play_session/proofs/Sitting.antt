@@ -1,12 +1,14 @@
 -- The one seat of a play.
 use Rattle.std.proofs.Common.{◌≡◌, ◌≢◌, ℕ, List, [], ◌∷◌, ◌++◌, Option, Some, None, IfSome, refl, sym, ap, ◌∙◌, subst}
+use Rattle.backend_core.specs.Script.{BackendFacts}
+use Rattle.backend_core.specs.declared.outcome.Outcome.{Outcome}
 use Rattle.book_core.specs.Books.{Refuses}
 use Rattle.book_rules.specs.History.{Base, Answers}
 use Rattle.book_rules.specs.declared.events.Entry.{Entry}
 use Rattle.book_rules.specs.declared.events.Event.{Event}
 use Rattle.book_rules.specs.declared.events.Event.TheVariants.{Leave}
-use Rattle.gate_serve.specs.Serving.{Did}
-use Rattle.gate_walk.specs.Acts.{Act, Stand}
+use Rattle.gate_serve.specs.Serving.{Asked, BackendTold, Did}
+use Rattle.gate_walk.specs.Acts.{Act, Draws, Stand, given_to, sent_by}
 use Rattle.gate_walk.specs.Stories.{Story, Tells, acts_of}
 use Rattle.gate_walk.specs.Told.{ComesTo, faultless}
 use Rattle.gate_walk.specs.declared.ended.Ended.{Ended}
@@ -22,6 +24,13 @@ Seats = SeatFacts Entry Base
 
 abbrev pub event_of : Entry → Event
 event_of e = e.event
+
+some_same : {A : Type 0} {x y : A} → Some x ≡ Some y → x ≡ y
+some_same e = cc
+
+-- what a backend in memory tells
+abbrev pub told_of : BackendFacts → BackendTold
+told_of b = record { sent = Some b.sent; given = Some b.given; to_come = Some b.to_come }
 
 -- no entry is of another number
 pub first_none : (number : ℕ) → HasNoneFrom seat_of number []
@@ -51,11 +60,15 @@ module _ (desk : TableId) (base : Base) (k l : Seats) (only : IsOnly desk base k
   did_seated acts did = stays_seated did.same did.own (did.none_from none_before)
 
   -- what it did on a connection
-  pub comes_to : (moment word : ℕ) (before after : ConnFacts) (ended : Ended) (story : Story) → Did k l (acts_of story)
-      → Tells (Some moment) (Some word) (faultless before.left before.written) (faultless after.left after.written) ended story → before.written ≡ [] → ended ≢ Memory
-      → ComesTo base 0 moment word k.seen before.left (record { history = l.seen; written = after.written; ended = ended })
-  comes_to moment word before after ended story did tells unwritten ample = record {
+  pub comes_to : (moment word : ℕ) (script : List Outcome) (before after : ConnFacts) (first last : BackendFacts) (ended : Ended) (story : Story) → Did k l (acts_of story)
+      → Asked (told_of first) (told_of last) (acts_of story)
+      → Tells (Some moment) (Some word) (faultless before.left before.written) (faultless after.left after.written) ended story → before.written ≡ [] → first.sent ≡ [] → first.to_come ≡ script → ended ≢ Memory
+      → ComesTo base 0 moment word k.seen before.left script (record { history = l.seen; sent = last.sent; written = after.written; ended = ended })
+  comes_to moment word script before after first last ended story did asked tells unwritten unsent come ample = record {
     story = story;
+    sends = some_same (asked.sends ∙ ap (λ l. Some (l ++ sent_by (acts_of story))) unsent);
+    to_come = asked.draws.0;
+    draws = subst (λ s. Draws s (given_to (acts_of story)) asked.draws.0) come asked.draws.2;
     left = after.left;
     tells = subst (λ w. Tells (Some moment) (Some word) (faultless before.left w) (faultless after.left after.written) ended story) unwritten tells;
     stands = subst (λ n. Stand base n k.seen (acts_of story) l.seen) only.first (subst (λ b. IfSome b (λ x. Stand x k.number k.seen (acts_of story) l.seen)) only.based did.stand);

@@ -3,11 +3,13 @@
 //!
 //! [`Session::start`] begins over empty tables, and is told which calls of its keeper fail. [`Session::take`] takes an event of the
 //! one seat. [`Session::connect`] serves the messages that stand in some bytes by `serve_connection`, over a clock that stands
-//! still, a word of chance that is always the same, and a connection in memory on which no read and no write fails.
+//! still, a word of chance that is always the same, a backend that gives the outcomes of a list, and a connection in memory on
+//! which no read and no write fails.
 //!
 //! ```text
 //! let mut session = Session::start(rt, alloc, limits, Vec::new(alloc))?;   // no call of its keeper fails
-//! let talk = session.connect(alloc, Reading { moment: 0, word: 0 }, b"POST /hello/v1 HTTP/1.1\r\nhost: localhost\r\ncontent-length: 3\r\n\r\nAnn")?;
+//! let bytes = b"POST /hello/v1 HTTP/1.1\r\nhost: localhost\r\ncontent-length: 3\r\n\r\nAnn";
+//! let talk = session.connect(alloc, Reading { moment: 0, word: 0 }, bytes, Vec::new(alloc))?;          // no exchange has an outcome
 //! talk.written   // HTTP/1.1 200 OK, content-type: text/plain, content-length: 7, and `Hi Ann!`
 //! talk.ended     // Closed
 //! ```

@@ -1,6 +1,7 @@
 // The book of a play.
-ghost use Rattle.std.specs.Prelude.{◌≡◌, ◌≢◌, ◌∷◌, ◌++◌, [], true, false, Ok, Err, IfOk, IfErr, OnOk, IsErrOf, MatchResult};
+ghost use Rattle.std.specs.Prelude.{◌≡◌, ◌≢◌, ◌∷◌, ◌++◌, [], All, map, true, false, Ok, Err, IfOk, IfErr, OnOk, IsErrOf, MatchResult};
 ghost use Rattle.gw_base.specs.Feed.{is_listed};
+ghost use Rattle.backend_core.specs.Script.{HasReplyStatus, outcome_of};
 ghost use Rattle.book_core.specs.Books.{Refuses};
 ghost use Rattle.book_rules.specs.History.{Answers};
 ghost use Rattle.book_rules.specs.Times.{IsInTime};
@@ -10,7 +11,7 @@ ghost use Rattle.play_session.specs.Sessions.{IsOfPlay, base_of};
 
 use crate::conn::ScriptConn;
 use crate::readings::{FixedWord, Reading};
-use backend_core::MemBackend;
+use backend_core::{MemBackend, Scripted, WireRequest};
 use book_core::{Book, StartFault, StepFault};
 use book_rules::{Event, Limits, Reply};
 use gate_ports::{FreeGate, Means};
@@ -33,9 +34,10 @@ pub enum SessionFault {
     Memory,
 }
 
-/// What a connection came to: all bytes that were written on it, and how it ended.
+/// What a connection came to: the requests that were sent to backends, all bytes that were written on it, and how it ended.
 #[derive(Drop)]
 pub struct Talk {
+    pub sent: Vec<WireRequest>,
     pub written: Bytes,
     pub ended: Ended,
 }
@@ -146,10 +148,18 @@ impl<'r, R: Wait> Session<'r, R> {
         Ok(Err(full))
     }
 
-    /// Serves the messages in the bytes of a connection, each at this moment and with this word. On want of memory some of its
-    /// entries may have been made.
-    pub fn connect(&mut self, alloc: Global, reading: Reading, bytes: &[u8]) -> Result<Talk, Memory>
-        ensures talks { IfOk result (λ t. ComesTo self.old.base 0 reading.moment reading.word self.old.history bytes.now (record { history = self.new.history; written = t.written; ended = t.ended })) }
+    /// Serves the messages in the bytes of a connection, each at this moment and with this word; exchanges with backends come to
+    /// these outcomes, one after another, and past their end fail. On want of memory some of its entries may have been made.
+    pub fn connect(
+        &mut self,
+        alloc: Global,
+        reading: Reading,
+        bytes: &[u8],
+        outcomes: Vec<Scripted>,
+    ) -> Result<Talk, Memory>
+        requires statuses { All HasReplyStatus outcomes.items }
+        ensures talks { IfOk result (λ t. ComesTo self.old.base 0 reading.moment reading.word self.old.history bytes.now (map outcome_of outcomes.items)
+            (record { history = self.new.history; sent = t.sent.items; written = t.written; ended = t.ended })) }
         ensures base { self.new.base ≡ self.old.base }
     {
         let Some(seat) = self.seat.take() else {
@@ -157,7 +167,7 @@ impl<'r, R: Wait> Session<'r, R> {
         };
         let mut conn = ScriptConn::new(alloc, bytes);
         let mut means = Means {
-            backend: MemBackend::new(alloc, Vec::new(alloc)),
+            backend: MemBackend::new(alloc, outcomes),
             clock: FixedClock {
                 moment: reading.moment,
             },
@@ -169,7 +179,9 @@ impl<'r, R: Wait> Session<'r, R> {
         );
         self.seat = Some(seat);
         let ended = end_of(ended)?;
+        let Means { backend, .. } = means;
         Ok(Talk {
+            sent: backend.into_sent(),
             written: conn.into_written(),
             ended,
         })

@@ -1,9 +1,12 @@
 // Integrations without a backend, with the answers to the byte.
-use crate::calls::{Field, definition, make_call};
+use crate::calls::{Call, Field, definition, make_call};
 use crate::told::{facts, found, told};
 use api_model::Api;
+use call_facts::{Answer, CallFacts};
 use gw_base::Memory;
-use integration_flow::mock_answer;
+use integration_flow::{FlowStop, choose_response, client_answer, mock_reply};
+use integration_request::{Prepared, wire_request};
+use resource_tree::Found;
 use std::alloc::Global;
 use std::process::Abort;
 use std::test::Fail;
@@ -85,20 +88,53 @@ const MOCKED: [Mocked; 12] = [
     ),
 ];
 
+// The answer to a reply of this status, by the response rules.
+fn answer_status(
+    alloc: Global,
+    api: &Api,
+    call: &Call,
+    found: &Found,
+    facts: &CallFacts,
+    status: u16,
+) -> Result<Answer, FlowStop> {
+    if facts.at >= 4_102_444_800_000 || api.methods() == 0 || status < 100 || status > 999 {
+        return Err(FlowStop::Memory);
+    }
+    let Some(rule) = choose_response(api, 0, status) else {
+        return Err(FlowStop::Config);
+    };
+    let reply = mock_reply(alloc, status);
+    client_answer(
+        alloc,
+        rule,
+        &call.request,
+        &call.target,
+        found,
+        facts,
+        &reply,
+    )
+}
+
+fn answer(
+    alloc: Global,
+    api: &Api,
+    call: &Call,
+    found: &Found,
+    facts: &CallFacts,
+) -> Result<Answer, FlowStop> {
+    if facts.at >= 4_102_444_800_000 || api.methods() == 0 {
+        return Err(FlowStop::Memory);
+    }
+    match wire_request(alloc, api, 0, &call.request, &call.target, found, facts)? {
+        Prepared::Mock(status) => answer_status(alloc, api, call, found, facts, status),
+        Prepared::Wire(_) | Prepared::Proxy(_) => Err(FlowStop::Memory),
+    }
+}
+
 fn answered(alloc: Global, api: &Api, headers: &[Field], body: &str) -> Result<String, Memory> {
     let call = make_call(alloc, "GET", "/shop/v1/orders/7", headers, body.as_bytes())?;
     let (found, facts) = (found(alloc)?, facts(alloc)?);
-    if facts.at >= 4_102_444_800_000 || api.methods() == 0 {
-        return Err(Memory);
-    }
-    let made = mock_answer(
-        alloc,
-        api.integration(0),
-        &call.request,
-        &call.target,
-        &found,
-        &facts,
-    );
+    let made = answer(alloc, api, &call, &found, &facts);
     told(alloc, &made)
 }
 

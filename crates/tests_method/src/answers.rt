@@ -4,7 +4,7 @@ use api_model::Api;
 use call_facts::{Answer, CallFacts, Kind, Vars};
 use gateway_answers::gateway_answer;
 use gw_base::{Memory, Seq, Shared, Text};
-use method_answers::answer_method;
+use method_answers::{Plan, plan_method};
 use std::alloc::Global;
 use std::process::Abort;
 use std::test::Fail;
@@ -179,8 +179,10 @@ fn answered(alloc: Global, api: &Api, call: &Call) -> Result<String, Memory> {
     if facts.at >= 4_102_444_800_000 {
         return Err(Memory);
     }
-    let made = answer_method(alloc, api, &call.request, &call.target, facts)?;
-    told(alloc, &made.answer)
+    match plan_method(alloc, api, &call.request, &call.target, facts)? {
+        Plan::Answered(made) => told(alloc, &made.answer),
+        Plan::Asks(_) => Err(Memory),
+    }
 }
 
 fn each_is_answered(

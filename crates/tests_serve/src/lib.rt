@@ -8,6 +8,7 @@
 //! | `connections` | tables of bytes with the answers that are written, how the connection ends and the entries, at 1 and 4,096 bytes a read |
 //! | `documents` | an API that is a document: what is answered to requests that fail by its routes, its checks or the size of their body, by its rules |
 //! | `failing_calls` | each read and each write failing once |
+//! | `gates` | a gate that is passed before each exchange alone, and what a backend is asked |
 //! | `limits` | sessions that get full at an Enter or a Leave |
 //! | `closing` | a session that is closing |
 //! | `lanes` | the connections of a port, looks that fail, and ports that are shut |
@@ -23,6 +24,8 @@ mod connections;
 mod documents;
 #[cfg(test)]
 mod failing_calls;
+#[cfg(test)]
+mod gates;
 #[cfg(test)]
 mod lanes;
 #[cfg(test)]

@@ -212,11 +212,15 @@ pub(crate) fn serve_document<R: Wait, C: Conn>(
     document: &str,
     conn: &mut C,
 ) -> Result<Served, Fail> {
+    serve_by(rt, alloc, &OPEN, commands_of(alloc, document)?, conn)
+}
+
+/// The commands of a session whose API is this document.
+pub(crate) fn commands_of(alloc: Global, document: &str) -> Result<Vec<Event>, Fail> {
     let Ok(api) = Api::read(alloc, document.as_bytes()) else {
         return Err(Fail::from("the document is refused"));
     };
-    let commands = commands_over(alloc, Shared::new(alloc, api)?, false)?;
-    serve_by(rt, alloc, &OPEN, commands, conn)
+    Ok(commands_over(alloc, Shared::new(alloc, api)?, false)?)
 }
 
 fn serve_by<R: Wait, C: Conn>(

@@ -96,7 +96,7 @@ returns-in-Some-end_behind-clause-served g c =
     let s = c.serve_connection-next.ensures.served in
     let v : Visit = record { before = told c.in-Ok-Conn.conn; after = told c.serve_connection-next.new.conn; ended = c.serve_connection-next.result.1; story = s.0 } in
     let tells : Tells moment word v.before v.after v.ended v.story =
-    subst (λ w. Tells moment w v.before v.after v.ended v.story) c.loop.invariant.words (subst (λ m. Tells m (g.W.Words.fixed c.loop.lane.means.words) v.before v.after v.ended v.story) c.loop.invariant.clock s.4) in
+    subst (λ w. Tells moment w v.before v.after v.ended v.story) c.loop.invariant.words (subst (λ m. Tells m (g.W.Words.fixed c.loop.lane.means.words) v.before v.after v.ended v.story) c.loop.invariant.clock s.3) in
     let r = visits_same c.loop.invariant.visited (g.P.Port.coming c.loop.lane.port) (g.P.Port.served c.accept.new.self) refl c.accept.ensures.served in
     let sent = g.B.Backend.sent c.serve_connection-next.new.means.backend in
     let given = g.B.Backend.given c.serve_connection-next.new.means.backend in
@@ -104,8 +104,8 @@ returns-in-Some-end_behind-clause-served g c =
     let served = g.P.Port.served c.give_back.new.port in
     let was_lent = subst (λ x. IfLent (Ok x) (λ k. Lent (told k) (g.P.Port.coming c.loop.lane.port) (g.P.Port.coming c.accept.new.self))) c.in-Ok-Conn.field-0-is c.in-Ok-Conn.ensures.lent in
     let lent = subst (λ x. Lent v.before (g.P.Port.coming c.loop.lane.port) x) (sym c.give_back.ensures.coming) was_lent in
-    let saw = saw_more r c.serve_connection-next.result.0 v sent given coming served s.1 s.2 s.3 tells lent c.give_back.ensures.served in
-    let closing = closing_then r c.serve_connection-next.result.0 v sent given coming served s.1 s.2 s.3 tells lent c.give_back.ensures.served ∙ sym s.5 in
+    let saw = saw_more r c.serve_connection-next.result.0 v sent given coming served s.1 s.2.sends s.2.gives tells lent c.give_back.ensures.served in
+    let closing = closing_then r c.serve_connection-next.result.0 v sent given coming served s.1 s.2.sends s.2.gives tells lent c.give_back.ensures.served ∙ sym s.4 in
     let is : lane_end_behind v.ended c.serve_connection-next.result.2 ≡ Some c.in-Some-end_behind.end = sym c.end_behind.ensures ∙ c.in-Some-end_behind.is in
     let ends = ends_behind r.visits v c.serve_connection-next.result.2 c.in-Some-end_behind.end r.on closing v.ended refl is in
     (r.visits ++ v ∷ [], saw.did, saw.sends, saw.gives, saw.told, saw.lent, saw.back, ends, c.give_back.ensures.closed ∙ sym closing)
@@ -124,7 +124,7 @@ loop-preserved g c =
     let s = c.serve_connection-next.ensures.served in
     let v : Visit = record { before = told c.in-Ok-Conn.conn; after = told c.serve_connection-next.new.conn; ended = c.serve_connection-next.result.1; story = s.0 } in
     let tells : Tells moment word v.before v.after v.ended v.story =
-    subst (λ w. Tells moment w v.before v.after v.ended v.story) c.loop.invariant.words (subst (λ m. Tells m (g.W.Words.fixed c.loop.lane.means.words) v.before v.after v.ended v.story) c.loop.invariant.clock s.4) in
+    subst (λ w. Tells moment w v.before v.after v.ended v.story) c.loop.invariant.words (subst (λ m. Tells m (g.W.Words.fixed c.loop.lane.means.words) v.before v.after v.ended v.story) c.loop.invariant.clock s.3) in
     let r = visits_same c.loop.invariant.visited (g.P.Port.coming c.loop.lane.port) (g.P.Port.served c.accept.new.self) refl c.accept.ensures.served in
     let sent = g.B.Backend.sent c.serve_connection-next.new.means.backend in
     let given = g.B.Backend.given c.serve_connection-next.new.means.backend in
@@ -140,5 +140,5 @@ loop-preserved g c =
       faults = omega (arith, c.loop.invariant.faults, c.accept.ensures.cause.later, c.give_back.ensures.faults);
       clock = c.serve_connection-next.ensures.clock ∙ c.loop.invariant.clock;
       words = c.serve_connection-next.ensures.words ∙ c.loop.invariant.words;
-      visited = visits_more r c.serve_connection-next.result.0 v sent given coming served s.1 s.2 s.3 tells lent c.give_back.ensures.served on.0 (sym s.5 ∙ on.1);
+      visited = visits_more r c.serve_connection-next.result.0 v sent given coming served s.1 s.2.sends s.2.gives tells lent c.give_back.ensures.served on.0 (sym s.4 ∙ on.1);
     }

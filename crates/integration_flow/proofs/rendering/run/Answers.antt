@@ -4,7 +4,7 @@ use Rattle.method_flow.specs.Answers.{budget}
 use Rattle.vtl_eval.specs.Meaning.{rendering}
 use Rattle.vtl_grammar.specs.Expanded.{expanded}
 use Rattle.vtl_grammar.specs.Templates.{tree_of}
-use Rattle.integration_flow.specs.Answers.{run}
+use Rattle.integration_flow.specs.Rendering.{run}
 use Rattle.integration_flow.proofs.Renders.{made_from, met_from}
 use Rattle.integration_flow.proofs.rendering.run.Goals as goal
 

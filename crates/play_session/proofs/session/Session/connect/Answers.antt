@@ -1,4 +1,5 @@
-use Rattle.std.proofs.Common.{◌≡◌, ap, sym, ◌∙◌, subst}
+use Rattle.std.proofs.Common.{◌≡◌, map, ap, sym, ◌∙◌, subst}
+use Rattle.backend_core.specs.Script.{BackendFacts, outcome_of}
 use Rattle.gate_walk.specs.Stories.{acts_of}
 use Rattle.gate_walk.specs.Told.{Came, ComesTo}
 use Rattle.play_session.specs.Sessions.{ConnFacts, SessionFacts}
@@ -31,14 +32,20 @@ returns-clause-talks g c =
     let moment = c.args.reading.moment in
     let word = c.args.reading.word in
     let after = c.serve_connection-seat.new.conn in
-    let came : Came = record { history = l.seen; written = after.written; ended = c.serve_connection-seat.result.1 } in
-    let here : ComesTo s.started.value.base 0 moment word k.seen c.new-conn.result.left came =
-    comes_to s.desk s.started.value.base k l at.0 at.1 moment word c.new-conn.result after c.serve_connection-seat.result.1 w.0 w.1 w.4 (ap (λ (f : ConnFacts). f.written) c.new-conn.ensures)
-    c.in_ok-ended.ensures.1 in
-    let over : ComesTo s.started.value.base 0 moment word (seen_by s.seat) c.args.bytes.now came =
-    subst (λ h. ComesTo s.started.value.base 0 moment word h c.args.bytes.now came) (ap seen_by (sym there))
-    (subst (λ b. ComesTo s.started.value.base 0 moment word k.seen b came) (ap (λ (f : ConnFacts). f.left) c.new-conn.ensures) here) in
-    let told : ComesTo c.args.self.now.base 0 moment word c.args.self.now.history c.args.bytes.now came =
-    subst (λ (v : SessionFacts). ComesTo v.base 0 moment word v.history c.args.bytes.now came) c.self.view_is over in
-    subst (λ b. ComesTo c.args.self.now.base 0 moment word c.args.self.now.history c.args.bytes.now (record { history = l.seen; written = b; ended = c.in_ok-ended.ended })) (sym c.into_written.ensures)
-    (subst (λ e. ComesTo c.args.self.now.base 0 moment word c.args.self.now.history c.args.bytes.now (record { history = l.seen; written = after.written; ended = e })) (sym c.in_ok-ended.ensures.0) told)
+    let first = c.new.result in
+    let last = c.serve_connection-seat.new.means.backend in
+    let script = map outcome_of c.args.outcomes.items in
+    let came : Came = record { history = l.seen; sent = last.sent; written = after.written; ended = c.serve_connection-seat.result.1 } in
+    let here : ComesTo s.started.value.base 0 moment word k.seen c.new-conn.result.left script came =
+    comes_to s.desk s.started.value.base k l at.0 at.1 moment word script c.new-conn.result after first last c.serve_connection-seat.result.1 w.0 w.1 w.2 w.3 (ap (λ (f : ConnFacts). f.written) c.new-conn.ensures)
+    (ap (λ (f : BackendFacts). f.sent) c.new.ensures) (ap (λ (f : BackendFacts). f.to_come) c.new.ensures) c.in_ok-ended.ensures.1 in
+    let over : ComesTo s.started.value.base 0 moment word (seen_by s.seat) c.args.bytes.now script came =
+    subst (λ h. ComesTo s.started.value.base 0 moment word h c.args.bytes.now script came) (ap seen_by (sym there))
+    (subst (λ b. ComesTo s.started.value.base 0 moment word k.seen b script came) (ap (λ (f : ConnFacts). f.left) c.new-conn.ensures) here) in
+    let told : ComesTo c.args.self.now.base 0 moment word c.args.self.now.history c.args.bytes.now script came =
+    subst (λ (v : SessionFacts). ComesTo v.base 0 moment word v.history c.args.bytes.now script came) c.self.view_is over in
+    let requests : ComesTo c.args.self.now.base 0 moment word c.args.self.now.history c.args.bytes.now script (record { history = l.seen; sent = c.into_sent.result.items; written = after.written; ended = c.serve_connection-seat.result.1 }) =
+    subst (λ r. ComesTo c.args.self.now.base 0 moment word c.args.self.now.history c.args.bytes.now script (record { history = l.seen; sent = r; written = after.written; ended = c.serve_connection-seat.result.1 }))
+    (sym c.into_sent.ensures) told in
+    subst (λ b. ComesTo c.args.self.now.base 0 moment word c.args.self.now.history c.args.bytes.now script (record { history = l.seen; sent = c.into_sent.result.items; written = b; ended = c.in_ok-ended.ended })) (sym c.into_written.ensures)
+    (subst (λ e. ComesTo c.args.self.now.base 0 moment word c.args.self.now.history c.args.bytes.now script (record { history = l.seen; sent = c.into_sent.result.items; written = after.written; ended = e })) (sym c.in_ok-ended.ensures.0) requests)

@@ -1,0 +1,29 @@
+-- The causes that answers name.
+use Rattle.std.specs.Prelude.{◌≡◌, List, [], ◌∷◌, ℕ, Option, Some, None}
+use Rattle.api_model.specs.Definition.{Definition}
+use Rattle.backend_core.specs.declared.outcome.Outcome.{Outcome}
+use Rattle.call_facts.specs.Kinds.{kind_name}
+use Rattle.call_facts.specs.declared.facts.CallFacts.{CallFacts}
+use Rattle.call_facts.specs.declared.kind.Kind.{Kind}
+use Rattle.call_facts.specs.declared.request.Request.{Request}
+use Rattle.call_facts.specs.declared.target.Target.{Target}
+use Rattle.gateway_answers.specs.Causes.{causes_in}
+use Rattle.method_answers.specs.Plans.{Planned, answered, exchanges, planned}
+use Rattle.method_flow.specs.declared.answers.Made.{Made}
+
+abbrev pub names_of : Option Kind → List (List ℕ)
+names_of None = []
+names_of (Some kind) = kind_name kind ∷ []
+
+-- the headers of an answer name its cause, and no other
+abbrev pub Names : Made → Type 0
+Names made = causes_in made.answer.headers ≡ names_of made.cause
+
+-- so does each answer that a plan may come to
+abbrev pub NamesEach : Planned → Type 0
+NamesEach (answered made) = Names made
+NamesEach (exchanges request next) = (outcome : Outcome) → Names (next outcome)
+
+-- and whatever a request to an API that is a document comes to
+abbrev pub NamesItsCause : Type 0
+NamesItsCause = (d : Definition) (r : Request) (t : Target) (f : CallFacts) → NamesEach (planned d r t f)

@@ -1,0 +1,71 @@
+-- What a request to an API that is a document comes to.
+use Rattle.std.specs.Prelude.{ℕ, List, [], slice_get, true, false, Option, Some, None, Ok, Err}
+use Rattle.std.specs.Option.{option_map, unwrap_or}
+use Rattle.api_model.specs.Definition.{Definition, parts_of}
+use Rattle.api_resources.specs.Resources.{path_of}
+use Rattle.backend_core.specs.declared.outcome.Outcome.{Outcome}
+use Rattle.backend_core.specs.declared.request.WireRequest.{WireRequest}
+use Rattle.call_facts.specs.declared.facts.CallFacts.{CallFacts}
+use Rattle.call_facts.specs.declared.kind.Kind.{Kind}
+use Rattle.call_facts.specs.declared.kind.Kind.TheVariants.{ApiConfigurationError, MissingAuthenticationToken}
+use Rattle.call_facts.specs.declared.request.Request.{Request}
+use Rattle.call_facts.specs.declared.target.Target.{Target}
+use Rattle.gateway_answers.specs.Answers.{failed_made}
+use Rattle.integration_flow.specs.Mocking.{mock_reply}
+use Rattle.integration_flow.specs.Stopping.{Flow}
+use Rattle.integration_request.specs.Requests.{wire_of}
+use Rattle.integration_request.specs.declared.made.Prepared.{Prepared}
+use Rattle.integration_request.specs.declared.made.Prepared.TheVariants.{Mock, Wire, Proxy}
+use Rattle.method_answers.specs.Calls.{Call}
+use Rattle.method_answers.specs.Failing.{failed_by}
+use Rattle.method_answers.specs.Outcomes.{mapped_made, outcome_made, stopped}
+use Rattle.method_answers.specs.declared.plans.Plan.{Plan}
+use Rattle.method_answers.specs.declared.plans.Plan.TheVariants.{Answered, Asks}
+use Rattle.method_checks.specs.Routing.{route_of}
+use Rattle.method_checks.specs.Validating.{failed_check}
+use Rattle.method_checks.specs.declared.routes.Route.{Route}
+use Rattle.method_checks.specs.declared.routes.Route.TheVariants.{TextApi, Hit, Missing}
+use Rattle.method_flow.specs.declared.answers.Made.{Made}
+use Rattle.resource_tree.specs.declared.found.Found.{Found}
+
+-- an answer; or a request to a backend, and what each outcome of that exchange is answered
+pub data Planned : Type 0 where
+  answered : Made → Planned
+  exchanges : WireRequest → (Outcome → Made) → Planned
+
+-- what is known of a call behind its route: the resource's path too, as the document has it
+abbrev pub at_resource : Definition → CallFacts → ℕ → CallFacts
+at_resource d f n = record f { resource = unwrap_or (option_map path_of (slice_get (parts_of d).resources n)) [] }
+
+-- by what the integration prepares: a status for its response rules, or a request whose reply is mapped, or passed on
+abbrev pub prepared : Call → Flow Prepared → Planned
+prepared c (Err stop) = answered (stopped c stop)
+prepared c (Ok (Mock status)) = answered (mapped_made c (mock_reply status))
+prepared c (Ok (Wire request)) = exchanges request (outcome_made false c)
+prepared c (Ok (Proxy request)) = exchanges request (outcome_made true c)
+
+abbrev pub integrated : Call → Planned
+integrated c = prepared c (wire_of c.definition c.method c.request c.target c.found c.facts)
+
+-- behind the checks: what failed is told with its message, and where nothing failed, the method is integrated
+abbrev pub checked : Call → Option (Kind × List ℕ) → Planned
+checked c (Some failed) = answered (failed_made failed.0 failed.1 (Some c.definition) c.facts)
+checked c None = integrated c
+
+abbrev pub call_at : Definition → Request → Target → CallFacts → Found → ℕ → Call
+call_at d r t f found method = record { definition = d; method = method; request = r; target = t; found = found; facts = at_resource d f found.resource }
+
+-- behind the route: where it hits a method, that method's checks are made
+abbrev pub routed : Definition → Request → Target → CallFacts → Route → Planned
+routed d r t f Missing = answered (failed_by MissingAuthenticationToken d f)
+routed d r t f (Hit found method) = checked (call_at d r t f found method) (failed_check d method r t found)
+routed d r t f TextApi = answered (failed_by ApiConfigurationError d f)
+
+-- what a request comes to: the first of the route, the parameters and the body that fails is answered, else the method's integration
+unfoldable pub planned : Definition → Request → Target → CallFacts → Planned
+planned d r t f = routed d r t f (route_of d r t)
+
+-- what a plan is
+abbrev pub plan_of : Plan → Planned
+plan_of (Answered made) = answered made
+plan_of (Asks exchange) = exchanges exchange.request (outcome_made exchange.passes exchange.call)

@@ -1,0 +1,24 @@
+// What a request comes to.
+use crate::calls::RoutedCall;
+use backend_core::WireRequest;
+use method_flow::Made;
+
+/// An exchange with a backend that a call asks for.
+#[derive(Drop)]
+pub struct Exchange<'a> {
+    /// What is sent.
+    pub request: WireRequest,
+    /// Whether the reply is passed on as it is.
+    pub passes: bool,
+    /// The call that asks for it.
+    pub call: RoutedCall<'a>,
+}
+
+/// What a request comes to.
+#[derive(Drop)]
+pub enum Plan<'a> {
+    /// This answer.
+    Answered(Made),
+    /// An exchange, whose outcome tells the answer.
+    Asks(Exchange<'a>),
+}

@@ -1,0 +1,155 @@
+// Two lanes that meet before their exchanges.
+ghost use Rattle.std.specs.Prelude.{IfOk, All};
+ghost use Rattle.backend_core.specs.Script.{HasReplyStatus};
+ghost use Rattle.outside_core.specs.Held.{IsUnusedLane};
+
+use crate::outsides::{conn, lane_of, told};
+use crate::stores::{pets, text};
+use backend_core::{MemBackend, Scripted};
+use book_core::Book;
+use book_rules::{Entry, Limits};
+use call_facts::WireReply;
+use gate_ports::{Gate, Lane, MemPort};
+use gate_session::serve_session;
+use gate_walk::LaneEnd;
+use gateway_cli::{MemOutside, MemStore};
+use gw_base::{Bytes, FixedClock, Seq, SplitMix};
+use keeper_core::MemKeeper;
+use std::alloc::Global;
+use std::sync::{Barrier, Wait};
+use std::test::Fail;
+use std::thread::Threads;
+
+const COMES: &'static [u8] = b"GET /pets/v1/p HTTP/1.1\r\nhost: localhost\r\n\r\n";
+
+const CAT: &'static [u8] =
+    b"HTTP/1.1 200 OK\r\ncontent-type: application/json\r\ncontent-length: 5\r\n\r\n\"cat\"";
+
+const DOG: &'static [u8] =
+    b"HTTP/1.1 200 OK\r\ncontent-type: application/json\r\ncontent-length: 5\r\n\r\n\"dog\"";
+
+const SENT: &'static [u8] =
+    b"GET /p HTTP/1.1\r\nhost: 127.0.0.1:9002\r\ncontent-type: application/json\r\nconnection: close\r\ncontent-length: 0\r\n\r\n";
+
+const SAID: &str = "session entries=4 calls=2 admitted=0 throttled=0 quota=0 notkept=0\n";
+
+const LIMITS: Limits = Limits {
+    entries: 100,
+    bytes: 10_000,
+};
+
+/// A gate at which two lanes meet: none passes it before both stand there.
+#[derive(Drop)]
+struct Meeting<'a, R> {
+    rt: &'a R,
+    here: &'a Barrier,
+}
+
+impl<'a, R: Wait> Gate for Meeting<'a, R> {
+    fn pass(&self, _place: u64) {
+        self.here.wait(self.rt);
+    }
+}
+
+type MeetingLane<'a, R> = Lane<MemPort, MemBackend, FixedClock, SplitMix, Meeting<'a, R>>;
+
+fn reply(alloc: Global, body: &[u8]) -> Result<Scripted, Fail>
+    ensures { IfOk result HasReplyStatus }
+{
+    Ok(Scripted::Reply(WireReply {
+        status: 200,
+        headers: Seq::new(alloc),
+        body: Bytes::of(Vec::from_slice(alloc, body)?),
+    }))
+}
+
+// A backend that answers once, with this body.
+fn backend(alloc: Global, body: &[u8]) -> Result<MemBackend, Fail> {
+    let reply = reply(alloc, body)?;
+    let mut outcomes = Vec::new(alloc);
+    outcomes.push(reply)?;
+    Ok(MemBackend::new(alloc, outcomes))
+}
+
+// Two lanes with one call each, and a backend of its own for each.
+fn lanes<'a, R>(
+    rt: &'a R,
+    alloc: Global,
+    here: &'a Barrier,
+) -> Result<Vec<MeetingLane<'a, R>>, Fail>
+    ensures { IfOk result (λ lanes. All IsUnusedLane lanes.items) }
+{
+    let mut lanes = Vec::new(alloc);
+    for body in [b"\"cat\"", b"\"dog\""] {
+        let mut conns = Vec::new(alloc);
+        conns.push(conn(alloc, COMES)?)?;
+        let port = MemPort::new(conns, Vec::new(alloc));
+        lanes.push(lane_of(port, backend(alloc, body)?, Meeting { rt, here }))?;
+    }
+    Ok(lanes)
+}
+
+// Whether one call came on the lane, its backend was asked just this once, and this was answered.
+fn is_answered<R>(lane: &MeetingLane<R>, answer: &[u8]) -> bool {
+    let asked = match lane.means.backend.sent() {
+        [request] => request.bytes.as_slice() == SENT,
+        _ => false,
+    };
+    let answered = match lane.port.served() {
+        [conn] => conn.written() == answer,
+        _ => false,
+    };
+    asked && answered
+}
+
+fn are_answered<R>(lanes: &[MeetingLane<R>]) -> bool {
+    match lanes {
+        [first, second] => is_answered(first, CAT) && is_answered(second, DOG),
+        _ => false,
+    }
+}
+
+// Whether both lanes had entered before either left: each stood before its exchange with nothing of the book in its hands.
+fn have_met(history: &[Entry]) -> bool {
+    match history {
+        [one, two, three, four] => { one.seat + two.seat == 3 && three.seat + four.seat == 3 }
+        _ => false,
+    }
+}
+
+#[test]
+fn lanes_of_a_session_meet_before_their_exchanges(rt: HostRuntime) -> Result<(), Fail> {
+    let alloc = rt.alloc();
+    let here = Barrier::new(2);
+    let keeper = MemKeeper::new(pets(alloc)?, Vec::new(alloc));
+    let Ok(book) = Book::start(alloc, keeper, LIMITS) else {
+        return Err(Fail::new("no book started"));
+    };
+    let mut lanes = lanes(&rt, alloc, &here)?;
+    let Ok((book, ends)) = serve_session(&rt, alloc, book, &mut lanes) else {
+        return Err(Fail::new("no session was served"));
+    };
+    assert!(rt; ends.as_slice() == [LaneEnd::Ended, LaneEnd::Ended].as_slice());
+    assert!(rt; are_answered(&lanes));
+    assert!(rt; have_met(book.history()));
+    Ok(())
+}
+
+#[test]
+fn lanes_of_the_program_meet_before_their_exchanges(rt: HostRuntime) -> Result<(), Fail> {
+    let alloc = rt.alloc();
+    let here = Barrier::new(2);
+    let store = MemStore::new(text(alloc, "a")?, pets(alloc)?, Vec::new(alloc));
+    let stores = vec![in alloc; store]?;
+    let lanes = lanes(&rt, alloc, &here)?;
+    let mut outside = MemOutside::new(Vec::new(alloc), stores, lanes, Vec::new(alloc));
+    let (status, output) = told(&rt, alloc, &["serve", "a", "8080", "2"], &mut outside, &[])?;
+    assert_eq!(rt; status, 0);
+    assert_eq!(rt; output.bytes(), SAID.as_bytes());
+    assert!(rt; are_answered(outside.lanes_returned()));
+    let [session] = outside.sessions() else {
+        return Err(Fail::new("no one session was handed on"));
+    };
+    assert!(rt; have_met(session.as_slice()));
+    Ok(())
+}

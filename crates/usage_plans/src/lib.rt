@@ -19,6 +19,11 @@
 //! | day 0, behind a grant of 2 | `Admitted` | 6 allowed, 5 used |
 //! | day 1 | `Admitted` | 5 allowed, 1 used, not the first |
 //!
+//! What is promised: each call is just what `specs/Tallies.antt` says of the row, the terms and the moment, and takes no memory. [`laws`]
+//! say of every row and of all that ever befell it that the level is the least over all windows of admissions, that the counts are those
+//! of what was charged to the period, that none is overused, and that each refusal comes exactly by these. [`terms_of`], [`tally_of`] and
+//! [`write_tally`] read and write the columns of the tables' rows.
+//!
 //! Left out: who may call, which is a matter of keys and stages; and where the rows stand.
 #![tactic(auto)]
 

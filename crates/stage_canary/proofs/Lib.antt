@@ -1,0 +1,2 @@
+-- look-ups of merged variables
+pub mod Overriding

@@ -497,6 +497,11 @@ def a_file_that_is_no_store_is_told(server):
             expect(f"serve over {name}", other.run("serve", name, free_port(), "1"), (1, told))
 
 
+def book(body):
+    """A post of a book, as the guide's curl sends it."""
+    return b"POST /books/v1/books HTTP/1.1\r\nhost: localhost\r\ncontent-type: application/json\r\ncontent-length: %d\r\n\r\n%s" % (len(body), body)
+
+
 def requests_to_a_document_are_checked(server):
     """The document of the examples: its paths, its parameters, its model, and its own answer to a path that is not there."""
     with open(f"{TOP}/examples/books.json", "rb") as file:
@@ -518,6 +523,11 @@ def requests_to_a_document_are_checked(server):
         (
             b"GET /books/v1/books?author=Ann HTTP/1.1\r\nhost: localhost\r\nx-reader: Bob\r\n\r\n",
             proxied(b"200 OK", b'{"author": "Ann", "books": []}'),
+        ),
+        (book(b'{"year": 1859}'), own_answer(b"400 Bad Request", b"BAD_REQUEST_BODY", b"Invalid request body")),
+        (
+            book(b'{"title": "On the Origin"}'),
+            proxied(b"201 Created", b"", b"content-type: application/json\r\nlocation: /books/1\r\n"),
         ),
     ]
     with Client(server.port) as client:

@@ -8,7 +8,7 @@ has a limit of its own, so it ends whatever the program does. The store begins e
 over HTTP, by a program of its own that is shut down over HTTP, too; what is expected is said to the byte by docs/HTTP.md, docs/ADMIN.md,
 docs/STORE.md and docs/SCRIPT.md. Nothing is sent that the server would leave unread where it closes a connection: the system would then reset it, and the
 answer might be lost."""
-import json, os, queue, signal, socket, sqlite3, subprocess, sys, tempfile, threading, time
+import json, os, queue, signal, socket, sqlite3, struct, subprocess, sys, tempfile, threading, time
 
 TOP = os.path.dirname(os.path.dirname(os.path.abspath(__file__)))
 LANES = 4
@@ -122,8 +122,8 @@ class Client:
 class Server:
     """The program, listening, in a folder of its own, over a store there."""
 
-    def __init__(self, program, room, store="orders.store"):
-        self.program, self.room, self.store, self.process, self.port = program, room, store, None, None
+    def __init__(self, program, room, store="orders.store", lanes=LANES):
+        self.program, self.room, self.store, self.lanes, self.process, self.port = program, room, store, lanes, None, None
 
     def run(self, *words, lines=b""):
         """The program with these words and this input, which ends by itself: its status, and what it prints."""
@@ -136,11 +136,11 @@ class Server:
             with socket.socket() as probe:
                 probe.bind(("127.0.0.1", 0))
                 self.port = probe.getsockname()[1]
-            words = [self.program, "serve", self.store, str(self.port), str(LANES)]
+            words = [self.program, "serve", self.store, str(self.port), str(self.lanes)]
             with open(f"{self.room}/output", "wb") as output:
                 self.process = subprocess.Popen(words, cwd=self.room, stdin=subprocess.DEVNULL, stdout=output, stderr=subprocess.PIPE)
             line = self.first_line()
-            if line == f"listening on 127.0.0.1:{self.port} with {LANES} lanes\n".encode():
+            if line == f"listening on 127.0.0.1:{self.port} with {self.lanes} lanes\n".encode():
                 return
             told = self.end()
             if told != b"fault port\n":
@@ -751,6 +751,92 @@ def the_examples_do_what_stands_beside_them(server):
     expect("hello.sh", (ended.returncode, sorted(ended.stdout.splitlines())), (0, sorted((lines + line).splitlines())))
 
 
+def call_of(body, last=False):
+    return request(b"POST", b"/hello/v1", body, last)
+
+
+def leaves_half_a_head(client):
+    client.send(b"POST /hello/v1 HTTP/1.1\r\nhost: local")
+
+
+def leaves_half_a_body(client):
+    client.send(b"POST /hello/v1 HTTP/1.1\r\nhost: localhost\r\ncontent-length: 1000\r\n\r\nAnn")
+    client.socket.shutdown(socket.SHUT_WR)
+
+
+def is_slow(client):
+    for byte in call_of(b"Slow", last=True):
+        client.send(bytes([byte]))
+        time.sleep(0.002)
+    client.has_last("the slow one's answer", text_answer(b"Hi Slow!", closes=True))
+
+
+def resets(client):
+    """Closed so, a connection is reset, with its answer unread."""
+    client.send(call_of(b"Ann") * 3)
+    client.socket.setsockopt(socket.SOL_SOCKET, socket.SO_LINGER, struct.pack("ii", 1, 0))
+
+
+def sends_no_head(client):
+    client.send(b"GET\r\n")
+    client.has_last("the answer to no head", edge_answer(b"400 Bad Request"))
+
+
+def sends_a_bad_chunk(client):
+    client.send(b"POST /hello/v1 HTTP/1.1\r\nhost: localhost\r\ntransfer-encoding: chunked\r\n\r\n-1\r\n")
+    client.has_last("the answer to a bad chunk", edge_answer(b"400 Bad Request"))
+
+
+def sends_two_lengths(client):
+    client.send(b"POST /hello/v1 HTTP/1.1\r\nhost: localhost\r\ncontent-length: 3\r\ncontent-length: 4\r\n\r\n")
+    client.has_last("the answer to two lengths", edge_answer(b"400 Bad Request"))
+
+
+def says_nothing(_):
+    pass
+
+
+BROKEN = [leaves_half_a_head, leaves_half_a_body, is_slow, resets, sends_no_head, sends_a_bad_chunk, sends_two_lengths, says_nothing]
+
+
+def broken_clients_harm_no_other(server):
+    """A storm: 64 clients over eight lanes, half of them broken in one of eight ways, each four times; of the others 1,024 calls, each of
+    which is answered to the byte. Behind them the server is shut down, and its line has at least these calls."""
+
+    def work(number):
+        if number % 2:
+            for _ in range(4):
+                with Client(other.port) as client:
+                    BROKEN[number // 2 % len(BROKEN)](client)
+            return
+        for turn in range(4):
+            with Client(other.port) as client:
+                for call in range(8):
+                    name, last = b"%d-%d-%d" % (number, turn, call), call == 7
+                    client.send(call_of(name, last))
+                    answer = text_answer(b"Hi %s!" % name, closes=last)
+                    (client.has_last if last else client.has_answer)(f"call {call} of turn {turn}", answer)
+
+    with tempfile.TemporaryDirectory() as room:
+        other = Server(server.program, room, lanes=8)
+        try:
+            other.start()
+            with Client(other.port) as client:
+                for asked, answer in MADE:
+                    client.calls(f"to {asked[:60]}", asked, answer)
+            at_once(64, work)
+            with Client(other.port) as client:
+                client.send(request(b"POST", b"/_admin/shutdown"))
+                client.has_last("the end", json_answer(b"200 OK", b'{"reply":"done"}', closes=True))
+            status, line = other.ends_by_itself()
+            expect("status", status, 0)
+            calls = int(line.split(b" calls=")[1].split()[0])
+            if not 1024 + 16 <= calls <= 1024 + 16 + 48:
+                raise Wrong(f"of 1,040 calls that were answered, and 48 that may have been, the line has {calls}")
+        finally:
+            other.end()
+
+
 def words_that_are_no_command_end_with_2(server):
     for words in ((), ("bogus",), ("serve",), ("serve", "s", "1"), ("serve", "s", "port", "4"), ("admin",), ("admin", "-s")):
         expect(f"status and output of {words}", server.run(*words), (2, b"usage\n"))
@@ -784,6 +870,7 @@ TESTS = [
     integrations_reach_their_backend,
     the_pets_are_called,
     the_examples_do_what_stands_beside_them,
+    broken_clients_harm_no_other,
     words_that_are_no_command_end_with_2,
     the_program_still_runs,
 ]

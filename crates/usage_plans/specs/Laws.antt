@@ -62,6 +62,10 @@ GrantsAreExact =
     → grant_of (account_after opening events).terms (account_after opening events).tally amount t
     ≡ decided_grant (terms_by opening (receipts_of opening events)) (level_by opening (receipts_of opening events) t) (standing_by opening (receipts_of opening events) t) amount t
 
+-- A ROW may stand at any later moment too
+abbrev pub RowsStandOn : Type 0
+RowsStandOn = (terms : Terms) (tally : Tally) (x t : ℕ) → x ≤ t → IsTally terms tally x → IsTally terms tally t
+
 -- A ROW still may stand where its plan is put anew
 abbrev pub RowsOutlastPlans : Type 0
 RowsOutlastPlans =

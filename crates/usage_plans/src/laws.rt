@@ -1,6 +1,6 @@
 //! Laws of the definitions. Each is a function without a body, whose clause is the law.
 ghost use Rattle.usage_plans.specs.Rows.{WrittenIsRead};
-ghost use Rattle.usage_plans.specs.Laws.{LevelIsLeast, CountsAreConserved, NoneIsOverused, RefusalsAreExact, GrantsAreExact, RowsOutlastPlans};
+ghost use Rattle.usage_plans.specs.Laws.{LevelIsLeast, CountsAreConserved, NoneIsOverused, RefusalsAreExact, GrantsAreExact, RowsOutlastPlans, RowsStandOn};
 
 /// The level that is kept is the least over all windows of admissions since the bucket began.
 pub fn the_kept_level_is_the_least()
@@ -27,6 +27,11 @@ pub fn refusals_are_exact()
 /// A grant is refused exactly where no period stands, or where the period would allow more than 1,000,000,000,000 calls.
 pub fn grants_are_exact()
     ensures { GrantsAreExact }
+{}
+
+/// A row that may stand at a moment may stand at any later one.
+pub fn rows_stand_on()
+    ensures { RowsStandOn }
 {}
 
 /// A row may stand under its plan also once that was put anew.

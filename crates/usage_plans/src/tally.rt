@@ -62,6 +62,7 @@ impl Tally {
     pub fn joined(terms: Terms, t: u64) -> Tally
         requires terms { IsTerms terms }
         ensures value { result ≡ joined_at terms t }
+        ensures fits { IsTally terms result t }
     {
         Tally {
             bucket: Bucket {

@@ -1,5 +1,5 @@
 // Two lanes that meet before their exchanges.
-ghost use Rattle.std.specs.Prelude.{IfOk, All};
+ghost use Rattle.std.specs.Prelude.{IfOk};
 ghost use Rattle.backend_core.specs.Script.{HasReplyStatus};
 ghost use Rattle.outside_core.specs.Held.{IsUnusedLane};
 
@@ -71,22 +71,19 @@ fn backend(alloc: Global, body: &[u8]) -> Result<MemBackend, Fail> {
     Ok(MemBackend::new(alloc, outcomes))
 }
 
-// Two lanes with one call each, and a backend of its own for each.
-fn lanes<'a, R>(
+// A lane with one call, whose backend answers with this body.
+fn lane<'a, R>(
     rt: &'a R,
     alloc: Global,
     here: &'a Barrier,
-) -> Result<Vec<MeetingLane<'a, R>>, Fail>
-    ensures { IfOk result (λ lanes. All IsUnusedLane lanes.items) }
+    body: &[u8],
+) -> Result<MeetingLane<'a, R>, Fail>
+    ensures { IfOk result IsUnusedLane }
 {
-    let mut lanes = Vec::new(alloc);
-    for body in [b"\"cat\"", b"\"dog\""] {
-        let mut conns = Vec::new(alloc);
-        conns.push(conn(alloc, COMES)?)?;
-        let port = MemPort::new(conns, Vec::new(alloc));
-        lanes.push(lane_of(port, backend(alloc, body)?, Meeting { rt, here }))?;
-    }
-    Ok(lanes)
+    let mut conns = Vec::new(alloc);
+    conns.push(conn(alloc, COMES)?)?;
+    let port = MemPort::new(conns, Vec::new(alloc));
+    Ok(lane_of(port, backend(alloc, body)?, Meeting { rt, here }))
 }
 
 // Whether one call came on the lane, its backend was asked just this once, and this was answered.
@@ -109,10 +106,15 @@ fn are_answered<R>(lanes: &[MeetingLane<R>]) -> bool {
     }
 }
 
+// Whether the entries are of the first lane and of the second, in either order.
+fn are_of_both(one: &Entry, two: &Entry) -> bool {
+    one.seat == 1 && two.seat == 2 || one.seat == 2 && two.seat == 1
+}
+
 // Whether both lanes had entered before either left: each stood before its exchange with nothing of the book in its hands.
 fn have_met(history: &[Entry]) -> bool {
     match history {
-        [one, two, three, four] => { one.seat + two.seat == 3 && three.seat + four.seat == 3 }
+        [one, two, three, four] => are_of_both(one, two) && are_of_both(three, four),
         _ => false,
     }
 }
@@ -125,7 +127,9 @@ fn lanes_of_a_session_meet_before_their_exchanges(rt: HostRuntime) -> Result<(),
     let Ok(book) = Book::start(alloc, keeper, LIMITS) else {
         return Err(Fail::new("no book started"));
     };
-    let mut lanes = lanes(&rt, alloc, &here)?;
+    let cat = lane(&rt, alloc, &here, b"\"cat\"")?;
+    let dog = lane(&rt, alloc, &here, b"\"dog\"")?;
+    let mut lanes = vec![in alloc; cat, dog]?;
     let Ok((book, ends)) = serve_session(&rt, alloc, book, &mut lanes) else {
         return Err(Fail::new("no session was served"));
     };
@@ -141,7 +145,9 @@ fn lanes_of_the_program_meet_before_their_exchanges(rt: HostRuntime) -> Result<(
     let here = Barrier::new(2);
     let store = MemStore::new(text(alloc, "a")?, pets(alloc)?, Vec::new(alloc));
     let stores = vec![in alloc; store]?;
-    let lanes = lanes(&rt, alloc, &here)?;
+    let cat = lane(&rt, alloc, &here, b"\"cat\"")?;
+    let dog = lane(&rt, alloc, &here, b"\"dog\"")?;
+    let lanes = vec![in alloc; cat, dog]?;
     let mut outside = MemOutside::new(Vec::new(alloc), stores, lanes, Vec::new(alloc));
     let (status, output) = told(&rt, alloc, &["serve", "a", "8080", "2"], &mut outside, &[])?;
     assert_eq!(rt; status, 0);

@@ -1,0 +1,2 @@
+-- keys by their values, beside their rows
+pub mod Indexes

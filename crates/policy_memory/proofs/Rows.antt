@@ -69,3 +69,16 @@ module _ (api stage : List ℕ) where
     flushes-set (r ∷ rows) (suc i) d lt t h a s =
         let parts = some_none (same_stage r.api r.stage api stage) r.place (last_in (take i rows) api stage) h in
         ap (λ o. cond (same_stage r.api r.stage a s) (Some r.place) o) (flushes-set rows i d (omega (arith, lt)) t parts.1 a s) ∙ other r a s (last_in rows a s) parts.0
+
+    -- the same, for a row that is at the place
+    pub flushes-noted : (rows : List StageFlush) (i : ℕ) (r : StageFlush) → r ≡ get_or rows i r → IsFirstFlush rows api stage i
+        → Flushes rows api stage place (set rows i (record { api = r.api; stage = r.stage; place = place }))
+    flushes-noted rows i r e first =
+        subst (λ (x : StageFlush). Flushes rows api stage place (set rows i (record { api = x.api; stage = x.stage; place = place }))) (sym e)
+        (flushes-set rows i r first.within (first.matches r) first.before)
+
+    -- and for a row more
+    pub flushes-added : (rows new : List StageFlush) (a s : List ℕ) → new ≡ rows ++ record { api = a; stage = s; place = place } ∷ [] → a ≡ api → s ≡ stage → last_in rows api stage ≡ None → Flushes rows api stage place new
+    flushes-added rows new a s e same_api same_stages none =
+        subst (λ (fs : List StageFlush). Flushes rows api stage place fs) (sym (e ∙ ap (λ x. rows ++ record { api = x; stage = s; place = place } ∷ []) same_api ∙ ap (λ x. rows ++ record { api = api; stage = x; place = place } ∷ []) same_stages))
+        (flushes-pushed rows none)

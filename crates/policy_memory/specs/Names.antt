@@ -1,5 +1,5 @@
 -- When two names are the same, and of which stage a name is.
-use Rattle.std.specs.Prelude.{◌≡◌, ℕ, Bool, true, ◌&&◌, List, ◌++◌, ap}
+use Rattle.std.specs.Prelude.{◌≡◌, ℕ, Bool, true, ◌&&◌, List, ◌++◌}
 use Rattle.std.specs.Cmp.{IsEquivalence, and_equiv, on_equiv, first_so, second_so}
 use Rattle.std.specs.Cmp.Lexicographic.{nat_list_eq_equiv, bytes_decides}
 use Rattle.std.specs.Hash as fed
@@ -21,7 +21,7 @@ is_of api stage name = same_stage api stage name.api name.stage
 
 pub same_name_equiv : IsEquivalence same_name
 unfolding same_name
-same_name_equiv = and_equiv (on_equiv (λ n. n.api) nat_list_eq_equiv) (and_equiv (on_equiv (λ n. n.stage) nat_list_eq_equiv) (and_equiv (on_equiv (λ n. n.authorizer) nat_list_eq_equiv) (on_equiv (λ n. n.token) nat_list_eq_equiv)))
+same_name_equiv = and_equiv (and_equiv (and_equiv (on_equiv (λ n. n.api) nat_list_eq_equiv) (on_equiv (λ n. n.stage) nat_list_eq_equiv)) (on_equiv (λ n. n.authorizer) nat_list_eq_equiv)) (on_equiv (λ n. n.token) nat_list_eq_equiv)
 
 -- equal names are one
 pub same_name-equal : (x y : PolicyName) → same_name x y ≡ true → x ≡ y
@@ -31,12 +31,12 @@ same_name-equal x y e =
     let stage = bytes_eq x.stage y.stage in
     let authorizer = bytes_eq x.authorizer y.authorizer in
     let token = bytes_eq x.token y.token in
-    let behind_api : (stage && authorizer && token) ≡ true = second_so api (stage && authorizer && token) e in
-    let behind_stage : (authorizer && token) ≡ true = second_so stage (authorizer && token) behind_api in
-    let api_is : x.api ≡ y.api = (bytes_decides x.api y.api).0 (first_so api (stage && authorizer && token) e) in
-    let stage_is : x.stage ≡ y.stage = (bytes_decides x.stage y.stage).0 (first_so stage (authorizer && token) behind_api) in
-    let authorizer_is : x.authorizer ≡ y.authorizer = (bytes_decides x.authorizer y.authorizer).0 (first_so authorizer token behind_stage) in
-    let token_is : x.token ≡ y.token = (bytes_decides x.token y.token).0 (second_so authorizer token behind_stage) in
+    let before_token : (api && stage && authorizer) ≡ true = first_so (api && stage && authorizer) token e in
+    let before_authorizer : (api && stage) ≡ true = first_so (api && stage) authorizer before_token in
+    let api_is : x.api ≡ y.api = (bytes_decides x.api y.api).0 (first_so api stage before_authorizer) in
+    let stage_is : x.stage ≡ y.stage = (bytes_decides x.stage y.stage).0 (second_so api stage before_authorizer) in
+    let authorizer_is : x.authorizer ≡ y.authorizer = (bytes_decides x.authorizer y.authorizer).0 (second_so (api && stage) authorizer before_token) in
+    let token_is : x.token ≡ y.token = (bytes_decides x.token y.token).0 (second_so (api && stage && authorizer) token e) in
     λ i. record { api = api_is i; stage = stage_is i; authorizer = authorizer_is i; token = token_is i }
 
 -- what a hasher is given of a name
@@ -44,4 +44,4 @@ abbrev pub name_input : PolicyName → HashWrites
 name_input x = fed.str x.api ++ fed.str x.stage ++ fed.str x.authorizer ++ fed.str x.token
 
 pub same_name-input : (x y : PolicyName) → same_name x y ≡ true → name_input x ≡ name_input y
-same_name-input x y e = ap name_input (same_name-equal x y e)
+same_name-input x y e = λ i. name_input (same_name-equal x y e i)

@@ -1,5 +1,5 @@
 // The place of the last flush of each stage.
-ghost use Rattle.std.specs.Prelude.{◌≡◌, [], OnOk, OnErr, MatchOption};
+ghost use Rattle.std.specs.Prelude.{◌≡◌, [], None, IfOk, OnOk, OnErr, MatchOption};
 ghost use Rattle.policy_memory.specs.Names.{same_stage};
 ghost use Rattle.policy_memory.specs.Kept.{last_in, Flushes as FlushedAt, IsFirstFlush};
 
@@ -15,11 +15,18 @@ pub(crate) struct StageFlush {
 }
 
 impl StageFlush {
+    #[tactic(auto, unfolding(crate::specs::Names::same_stage))]
     fn is_of(&self, api: &str, stage: &str) -> bool
         ensures { result ≡ same_stage self.now.api self.now.stage api.now stage.now }
     {
         self.api.as_str() == api && self.stage.as_str() == stage
     }
+}
+
+fn text_of(alloc: Global, text: &str) -> Result<Text, Memory>
+    ensures { IfOk result (λ other. other ≡ text.now) }
+{
+    Ok(Text::of(String::from_str(alloc, text)?))
 }
 
 /// The place of the last flush of an API and stage, over one look at each row.
@@ -69,6 +76,22 @@ impl StageFlushes {
         last_flush(self.rows.as_slice(), api, stage)
     }
 
+    // Adds the first flush of an API and stage.
+    fn add(&mut self, alloc: Global, api: &str, stage: &str, place: u64) -> Result<(), Memory>
+        requires { last_in self.old.rows.items api.now stage.now ≡ None }
+        ensures noted { OnOk result (FlushedAt self.old.rows.items api.now stage.now place self.new.rows.items) }
+        ensures unchanged { OnErr result (self.new.rows.items ≡ self.old.rows.items) }
+    {
+        let api_text = text_of(alloc, api)?;
+        let stage_text = text_of(alloc, stage)?;
+        self.rows.push(StageFlush {
+            api: api_text,
+            stage: stage_text,
+            place,
+        })?;
+        Ok(())
+    }
+
     /// Notes a later flush in place of the last one. Only the first flush of a stage takes memory.
     pub(crate) fn note(
         &mut self,
@@ -78,18 +101,14 @@ impl StageFlushes {
         place: u64,
     ) -> Result<(), Memory>
         ensures noted { OnOk result (FlushedAt self.old.rows.items api.now stage.now place self.new.rows.items) }
-        ensures unchanged { OnErr result (self.new ≡ self.old) }
+        ensures unchanged { OnErr result (self.new.rows.items ≡ self.old.rows.items) }
     {
-        if let Some(i) = find_flush(self.rows.as_slice(), api, stage) {
-            self.rows[i].place = place;
-            return Ok(());
+        match find_flush(self.rows.as_slice(), api, stage) {
+            Some(i) => {
+                self.rows[i].place = place;
+                Ok(())
+            }
+            None => self.add(alloc, api, stage, place),
         }
-        let row = StageFlush {
-            api: Text::of(String::from_str(alloc, api)?),
-            stage: Text::of(String::from_str(alloc, stage)?),
-            place,
-        };
-        self.rows.push(row)?;
-        Ok(())
     }
 }

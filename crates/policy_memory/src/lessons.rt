@@ -35,13 +35,11 @@ pub struct Lesson {
     pub place: u64,
 }
 
-impl Lesson {
-    // Whether it may be used at a moment.
-    fn is_usable(&self, t: u64) -> bool
-        ensures { result ≡ nat_lt t (self.now.at + 1000 * self.now.ttl) }
-    {
-        t < self.at || t - self.at < 1_000 * u64::from(self.ttl)
-    }
+// Whether what was learned at a moment, for so many seconds, may be used at another.
+fn is_usable(t: u64, at: u64, ttl: u32) -> bool
+    ensures { result ≡ nat_lt t (at + 1000 * ttl) }
+{
+    t < at || t - at < 1_000 * u64::from(ttl)
 }
 
 /// The policies that are remembered.
@@ -52,7 +50,10 @@ pub struct PolicyMemory {
 
 impl Drop for PolicyMemory {
     fn drop(self) {
-        let PolicyMemory { lessons: _, flushes: _ } = self;
+        let PolicyMemory {
+            lessons: _,
+            flushes: _,
+        } = self;
     }
 }
 
@@ -84,7 +85,7 @@ impl PolicyMemory {
     {
         let lesson = self.lessons.peek(name)?;
         let flush = self.flushes.last(name.api.as_str(), name.stage.as_str());
-        if flush.is_some_and(|flush| lesson.place < flush) || !lesson.is_usable(t) {
+        if flush.is_some_and(|flush| lesson.place < flush) || !is_usable(t, lesson.at, lesson.ttl) {
             return None;
         }
         Some(&lesson.policy)
@@ -107,16 +108,11 @@ impl PolicyMemory {
     }
 
     /// Forgets all that was learned at an API and stage. Where memory is wanting nothing changes.
-    pub fn flush(
-        &mut self,
-        alloc: Global,
-        api: &str,
-        stage: &str,
-        place: u64,
-    ) -> Result<(), Memory>
+    pub fn flush(&mut self, alloc: Global, api: &str, stage: &str, place: u64) -> Result<(), Memory>
         ensures remembers { OnOk result ((happened : List Happening) → Remembers happened place self.old → Remembers (flushed api.now stage.now ∷ happened) (place + 1) self.new) }
         ensures unchanged { OnErr result (self.new ≡ self.old) }
     {
-        self.flushes.note(alloc, api, stage, place)
+        self.flushes.note(alloc, api, stage, place)?;
+        Ok(())
     }
 }

@@ -25,6 +25,7 @@ impl PartialEq for PolicyName {
 
     ghost laws = { partial_equiv_from_equiv same_name_equiv };
 
+    #[tactic(auto, unfolding(crate::specs::Names::same_name))]
     fn eq(&self, other: &PolicyName) -> bool {
         self.api.as_str() == other.api.as_str()
             && self.stage.as_str() == other.stage.as_str()

@@ -161,9 +161,6 @@ remembers-flushed happened old new api stage place e f r =
       flushes = λ a s. f a s ∙ ap (λ o. cond (same_stage api stage a s) (Some place) o) (r.flushes a s);
     }
 
-pub remembers-nothing : (kept : Kept) → kept.lessons ≡ [] → kept.flushes ≡ [] → Remembers [] 0 kept
-remembers-nothing kept e f = record { placed = []; same = refl; order = tt; lessons = e; flushes = λ api stage. ap (λ fs. last_in fs api stage) f }
-
 order-later : (next later : ℕ) (placed : List Placed) → AreBelow next placed → next ≤ later → AreBelow later placed
 order-later next later [] order le = tt
 order-later next later (p ∷ older) order le = (omega (arith, order.0, le), order.1)

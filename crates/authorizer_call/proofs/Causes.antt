@@ -1,9 +1,8 @@
 -- What an exchange comes to, by its causes.
-use Rattle.std.proofs.Common.{◌≡◌, ◌≢◌, ℕ, ◌==◌, ◌≤◌, nat_lt, Bool, true, false, List, length, Option, Some, None, Result, Ok, Err, refl, sym, ap, ◌∙◌, subst, arith, eq-eqb, eqb-true}
+use Rattle.std.proofs.Common.{◌≡◌, ℕ, ◌==◌, ◌≤◌, nat_lt, Bool, true, false, List, length, Option, Some, None, Result, Ok, Err, refl, sym, ap, ◌∙◌, subst, arith, eqb-true}
 use borrow.Author.Tests.{eqb-false, ltb-false}
 use Rattle.std.proofs.lemmas.Bool.Decides.{nat_tests}
 use Rattle.std.specs.Prelude.{if◌then◌else◌}
-use Rattle.backend_core.specs.declared.outcome.Outcome.{Outcome}
 use Rattle.backend_core.specs.declared.outcome.Outcome.TheVariants.{Reply, Failed, TimedOut, Memory}
 use Rattle.call_facts.specs.declared.request.WireReply.{WireReply}
 use Rattle.json_subset.specs.Reading.{json}
@@ -23,7 +22,6 @@ use Rattle.policy_core.proofs.Decided.{decided, decides}
 use Rattle.policy_core.proofs.Formed.{reply_has_none, reply_is}
 use Rattle.authorizer_call.specs.Laws.{AllowsByDecision, AlwaysToldByCause, IsToldByCause}
 use Rattle.authorizer_call.specs.Outcomes.{Allows, allows, if_taken, read_of, told}
-use Rattle.authorizer_call.specs.declared.fault.AuthorizerFault.{AuthorizerFault}
 use Rattle.authorizer_call.specs.declared.fault.AuthorizerFault.TheVariants as fault
 
 abbrev Read : Type 0

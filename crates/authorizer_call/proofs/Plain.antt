@@ -1,5 +1,5 @@
 -- A uri with neither stage variables nor placeholders leads somewhere.
-use Rattle.std.proofs.Common.{◌≡◌, ℕ, Bool, true, false, not, ◌&&◌, ◌||◌, ◌==◌, List, [], ◌∷◌, ◌++◌, length, Option, Some, None, refl, sym, ap, ◌∙◌}
+use Rattle.std.proofs.Common.{◌≡◌, ℕ, Bool, true, false, not, ◌&&◌, ◌||◌, ◌==◌, List, [], ◌∷◌, ◌++◌, length, Option, Some, None, refl, ap, ◌∙◌}
 use Rattle.std.specs.Prelude.{if◌then◌else◌}
 use Rattle.std.specs.List.{list_all, list_any}
 use Rattle.std.specs.Option.{option_and_then, option_map}
@@ -43,9 +43,9 @@ no_room count all (Variable x ∷ ps) h = cc
 no_room count all (Placeholder x ∷ ps) h = cc
 
 left_of : (p z r : Bool) → r ≡ false → (p || (z && r)) ≡ true → p ≡ true
-left_of true z r no h = refl
-left_of false true r no h = cc
-left_of false false r no h = cc
+left_of true z r shut h = refl
+left_of false true r shut h = cc
+left_of false false r shut h = cc
 
 -- the port
 

@@ -118,8 +118,8 @@ fn sent_to(
 
 /// The request that asks an authorizer about a token (API Gateway Developer Guide, "Input to an API Gateway Lambda authorizer"):
 /// a POST to its uri, which is awaited for the authorizer's time, with the token and the name of the call as JSON strings. Nothing
-/// else of the call goes on. `None` just where the uri leads nowhere, which no definition's does: it is no
-/// `http://HOST:PORT/PATH`, or has stage variables or placeholders.
+/// else of the call goes on. `None` just where the uri leads nowhere: it is no `http://HOST:PORT/PATH`, or has stage variables or
+/// placeholders. A definition is refused whose authorizer has such a uri.
 #[tactic(auto, unfolding(crate::specs::Requests::authorizer_request_of))]
 pub fn authorizer_request(
     alloc: Global,

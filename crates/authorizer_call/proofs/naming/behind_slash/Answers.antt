@@ -1,4 +1,4 @@
-use Rattle.std.proofs.Common.{Some, None}
+use Rattle.std.proofs.Common.{Some, None, rules}
 use Rattle.std.proofs.lemmas.Str.Pattern.{strip_prefix_char}
 use Rattle.authorizer_call.proofs.Slashes.{none_goes, slash_goes}
 use Rattle.authorizer_call.proofs.naming.behind_slash.Goals as goal

@@ -9,6 +9,7 @@ use std::alloc::Global;
 use std::test::Fail;
 
 /// A call and an authorizer's uri, and the request to the authorizer. The bodies are those of another writer of JSON.
+#[derive(Clone, Copy)]
 struct Asked {
     target: &'static str,
     method: &'static str,

@@ -12,5 +12,6 @@ curl -sS --retry 20 --retry-delay 1 --retry-connrefused -X PUT --data-binary 'Hi
 curl -sS -X POST "$at/_admin/apis/hello/deployments" && echo
 curl -sS -X PUT -d '1 env=test' "$at/_admin/apis/hello/stages/v1" && echo
 curl -sS -d Ann "$at/hello/v1" && echo
-curl -sS -X POST "$at/_admin/shutdown" && echo
+# Printed whole, since the server prints its own line as it ends.
+reply=$(curl -sS -X POST "$at/_admin/shutdown") && echo "$reply"
 wait "$server"

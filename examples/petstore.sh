@@ -23,5 +23,6 @@ curl -sS "$at/pets/dev/pets/3" && echo
 curl -sS "$at/pets/dev/pets/9" && echo
 curl -sS -o /dev/null -w '%{http_code} %header{location}\n' -H 'content-type: application/json' -d '{"type":"dog","price":1}' "$at/pets/dev/pets"
 curl -sS -H 'content-type: application/json' -d '{"type":"cow"}' "$at/pets/dev/pets" && echo
-curl -sS -X POST "$at/_admin/shutdown" && echo
+# Printed whole, since the server prints its own line as it ends.
+reply=$(curl -sS -X POST "$at/_admin/shutdown") && echo "$reply"
 wait "$server"

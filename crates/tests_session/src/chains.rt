@@ -2,14 +2,15 @@
 ghost use Rattle.std.specs.Prelude.{IfOk};
 ghost use Rattle.outside_core.specs.Held.{IsUnusedLane};
 
-use crate::outsides::{ANN, MemLane, PLAIN, conn, open_lane, outside};
+use crate::outsides::{ANN, MemLane, PLAIN, conn, outside};
 use crate::sessions::HI_ANN;
 use crate::stores::{HELLO, tables};
+use backend_core::MemBackend;
 use book_core::{Book, StartFault};
 use book_rules::Limits;
-use gate_ports::MemPort;
+use gate_ports::{FreeGate, Lane, Means, MemPort};
 use gate_walk::LaneEnd;
-use gw_base::MemSink;
+use gw_base::{FixedClock, MemSink, SplitMix};
 use keeper_core::MemKeeper;
 use session_chain::{AllFault, serve_all};
 use std::alloc::Global;
@@ -112,8 +113,15 @@ fn lane(alloc: Global, posts: &[&[u8]]) -> Result<MemLane, Fail>
     for post in posts {
         conns.push(conn(alloc, post)?)?;
     }
-    let port = MemPort::new(conns, Vec::new(alloc));
-    Ok(open_lane(alloc, port))
+    Ok(Lane {
+        port: MemPort::new(conns, Vec::new(alloc)),
+        means: Means {
+            backend: MemBackend::new(alloc, Vec::new(alloc)),
+            clock: FixedClock { moment: 0 },
+            words: SplitMix { state: 0 },
+            gate: FreeGate,
+        },
+    })
 }
 
 /// What is behind the last session: its lanes, what was printed, how many histories were handed on, and how it ended.

@@ -6,7 +6,6 @@
 //! | `administering` | lines of commands, what is printed of them, and what the store has behind them |
 //! | `sessions` | what is answered on the lanes, and what the outside has behind the session |
 //! | `endings` | a table of outsides with the lines that are printed and the statuses |
-//! | `meetings` | two lanes that meet before their exchanges, in a session and in the program |
 //! | `chains` | sessions that follow each other over one lane, with a few entries each |
 //! | `wording` | words that ask for nothing that can be served |
 //! | `stores`, `outsides` | what the tests stand on |
@@ -18,8 +17,6 @@ mod administering;
 mod chains;
 #[cfg(test)]
 mod endings;
-#[cfg(test)]
-mod meetings;
 #[cfg(test)]
 mod outsides;
 #[cfg(test)]

@@ -1,13 +1,13 @@
 // Outsides in memory, and what `run` makes of them.
-ghost use Rattle.std.specs.Prelude.{◌≡◌, IfOk, All};
+ghost use Rattle.std.specs.Prelude.{IfOk, All};
 ghost use Rattle.gate_ports.specs.Docks.{IsUnwritten};
 ghost use Rattle.outside_core.specs.Held.{IsUnusedLane};
 
 use crate::stores::{Given, HELLO, tables, text};
 use backend_core::MemBackend;
 use book_rules::Entry;
-use gate_ports::{FreeGate, Lane, Means, MemConn, MemPort, Port};
-use gateway_cli::{MemOutside, MemStore, Outside, run};
+use gate_ports::{FreeGate, Lane, Means, MemConn, MemPort};
+use gateway_cli::{MemOutside, MemStore, run};
 use gw_base::{FixedClock, MemSink, MemSource, SplitMix, Text};
 use std::alloc::Global;
 use std::sync::Wait;
@@ -51,40 +51,21 @@ pub(crate) fn conn(alloc: Global, bytes: &[u8]) -> Result<MemConn, Fail>
     Ok(MemConn::new(source, sink))
 }
 
-/// A lane over this port, with a clock and random words that stand still.
-pub(crate) fn lane_of<G>(
-    port: MemPort,
-    backend: MemBackend,
-    gate: G,
-) -> Lane<MemPort, MemBackend, FixedClock, SplitMix, G>
-    ensures { result.port ≡ port }
-{
-    Lane {
-        port,
-        means: Means {
-            backend,
-            clock: FixedClock { moment: 0 },
-            words: SplitMix { state: 0 },
-            gate,
-        },
-    }
-}
-
-/// A lane over this port, without outcomes for its backend, and with an open gate.
-pub(crate) fn open_lane(alloc: Global, port: MemPort) -> MemLane
-    ensures { result.port ≡ port }
-{
-    lane_of(port, MemBackend::new(alloc, Vec::new(alloc)), FreeGate)
-}
-
 // A lane with one connection, whose looks of these numbers fail.
 fn lane(alloc: Global, looks: &[u32]) -> Result<MemLane, Fail>
     ensures { IfOk result IsUnusedLane }
 {
     let mut conns = Vec::new(alloc);
     conns.push(conn(alloc, ANN)?)?;
-    let port = MemPort::new(conns, Vec::from_slice(alloc, looks)?);
-    Ok(open_lane(alloc, port))
+    Ok(Lane {
+        port: MemPort::new(conns, Vec::from_slice(alloc, looks)?),
+        means: Means {
+            backend: MemBackend::new(alloc, Vec::new(alloc)),
+            clock: FixedClock { moment: 0 },
+            words: SplitMix { state: 0 },
+            gate: FreeGate,
+        },
+    })
 }
 
 fn lanes(alloc: Global, looks: &[u32]) -> Result<Vec<MemLane>, Fail>
@@ -116,17 +97,14 @@ fn words(alloc: Global, from: &[&str]) -> Result<Vec<Text>, Fail> {
 }
 
 /// What these words answer and print with this input, where the writes of these numbers fail.
-pub(crate) fn told_with<O: Outside<Entry>, R: Threads + Wait + Sync>(
+pub(crate) fn told_with<R: Threads + Wait + Sync>(
     rt: &R,
     alloc: Global,
     from: &[&str],
     input: &mut MemSource,
-    outside: &mut O,
+    outside: &mut MemOut,
     writes: &[u32],
-) -> Result<(u8, MemSink), Fail>
-where
-    <O::Door as Port>::Link: Send,
-{
+) -> Result<(u8, MemSink), Fail> {
     let mut output = MemSink::new(alloc, Vec::from_slice(alloc, writes)?);
     let words = words(alloc, from)?;
     let status = run(rt, alloc, &words, input, &mut output, outside);
@@ -134,16 +112,13 @@ where
 }
 
 /// What these words answer and print, with an input of which a read would fail.
-pub(crate) fn told<O: Outside<Entry>, R: Threads + Wait + Sync>(
+pub(crate) fn told<R: Threads + Wait + Sync>(
     rt: &R,
     alloc: Global,
     from: &[&str],
-    outside: &mut O,
+    outside: &mut MemOut,
     writes: &[u32],
-) -> Result<(u8, MemSink), Fail>
-where
-    <O::Door as Port>::Link: Send,
-{
+) -> Result<(u8, MemSink), Fail> {
     let mut input = MemSource::new(Vec::new(alloc), 1, Vec::from_slice(alloc, &[0])?);
     told_with(rt, alloc, from, &mut input, outside, writes)
 }

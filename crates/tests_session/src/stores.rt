@@ -3,7 +3,7 @@ use gw_base::{Memory, Text};
 use keeper_core::{ApiRow, DeploymentRow, Row, StageRow, Tables};
 use std::alloc::Global;
 
-/// A row of an API.
+/// A row of the API `hello`.
 #[derive(Clone, Copy)]
 pub(crate) enum Given {
     Api,
@@ -11,53 +11,35 @@ pub(crate) enum Given {
     Stage(u64),
 }
 
-/// An API that is deployed once, and its stage `v1`.
+/// The API `hello`, deployed once, and its stage `v1`.
 pub(crate) const HELLO: &'static [Given] = &[Given::Api, Given::Deployment(1), Given::Stage(1)];
 
-/// An API: its name, whether its source is a template (1) or a document (0), and the source.
-#[derive(Clone, Copy)]
-struct Kind {
-    api: &'static str,
-    text: u64,
-    source: &'static str,
-}
-
-const HELLO_KIND: Kind = Kind {
-    api: "hello",
-    text: 1,
-    source: "Hi $input.body!",
-};
-
-const PETS_KIND: Kind = Kind {
-    api: "pets",
-    text: 0,
-    source: r#"{"version":1,"resources":{"/p":{"GET":{"integration":{"type":"HTTP","method":"GET","uri":"http://127.0.0.1:9002/p","responses":[{"status":200}]}}}}}"#,
-};
+const TEMPLATE: &str = "Hi $input.body!";
 
 pub(crate) fn text(alloc: Global, from: &str) -> Result<Text, Memory> {
     Ok(Text::of(String::from_str(alloc, from)?))
 }
 
-fn api(alloc: Global, kind: &Kind) -> Result<Row, Memory> {
+fn api(alloc: Global) -> Result<Row, Memory> {
     Ok(Row::Api(ApiRow {
-        api: text(alloc, kind.api)?,
-        text: kind.text,
-        source: text(alloc, kind.source)?,
+        api: text(alloc, "hello")?,
+        text: 1,
+        source: text(alloc, TEMPLATE)?,
     }))
 }
 
-fn deployment(alloc: Global, kind: &Kind, number: u64) -> Result<Row, Memory> {
+fn deployment(alloc: Global, number: u64) -> Result<Row, Memory> {
     Ok(Row::Deployment(DeploymentRow {
-        api: text(alloc, kind.api)?,
+        api: text(alloc, "hello")?,
         number,
-        text: kind.text,
-        source: text(alloc, kind.source)?,
+        text: 1,
+        source: text(alloc, TEMPLATE)?,
     }))
 }
 
-fn stage(alloc: Global, kind: &Kind, deployment: u64) -> Result<Row, Memory> {
+fn stage(alloc: Global, deployment: u64) -> Result<Row, Memory> {
     Ok(Row::Stage(StageRow {
-        api: text(alloc, kind.api)?,
+        api: text(alloc, "hello")?,
         stage: text(alloc, "v1")?,
         deployment,
         vars: text(alloc, "")?,
@@ -67,28 +49,19 @@ fn stage(alloc: Global, kind: &Kind, deployment: u64) -> Result<Row, Memory> {
     }))
 }
 
-fn row(alloc: Global, kind: &Kind, given: Given) -> Result<Row, Memory> {
+fn row(alloc: Global, given: Given) -> Result<Row, Memory> {
     match given {
-        Given::Api => api(alloc, kind),
-        Given::Deployment(number) => deployment(alloc, kind, number),
-        Given::Stage(deployment) => stage(alloc, kind, deployment),
+        Given::Api => api(alloc),
+        Given::Deployment(number) => deployment(alloc, number),
+        Given::Stage(deployment) => stage(alloc, deployment),
     }
 }
 
-fn tables_of(alloc: Global, kind: &Kind, rows: &[Given]) -> Result<Tables, Memory> {
+/// Tables of these rows.
+pub(crate) fn tables(alloc: Global, rows: &[Given]) -> Result<Tables, Memory> {
     let mut tables = Tables::new(alloc);
     for given in rows {
-        tables.put(row(alloc, kind, *given)?)?;
+        tables.put(row(alloc, *given)?)?;
     }
     Ok(tables)
-}
-
-/// Tables of these rows of the API `hello`.
-pub(crate) fn tables(alloc: Global, rows: &[Given]) -> Result<Tables, Memory> {
-    tables_of(alloc, &HELLO_KIND, rows)
-}
-
-/// Tables of the API `pets`, a document with one method over HTTP, and of its stage `v1`.
-pub(crate) fn pets(alloc: Global) -> Result<Tables, Memory> {
-    tables_of(alloc, &PETS_KIND, HELLO)
 }

@@ -535,6 +535,67 @@ def requests_to_a_document_are_checked(server):
             client.calls(f"to {asked[:60]}", asked, answer)
 
 
+KEYED = b"""{"version":1,"resources":{"/k":{"GET":{"apiKeyRequired":true,"integration":{"type":"MOCK",
+"templates":{"application/json":"{\\"statusCode\\":200}"},"responses":[{"status":200,"templates":{"application/json":"$context.identity.apiKeyId"}}]}}}}}"""
+
+KEYED_CALL = b"GET /keyed/v1/k HTTP/1.1\r\nhost: localhost\r\nx-api-key: %s\r\n\r\n"
+
+
+def calls_count_against_their_quota(server):
+    """A key with a quota of a hundred calls a month: of two hundred by two clients at once just a hundred are answered; a throttle of one call,
+    a key that is switched off, and one that is not known."""
+    used = b'{"reply":"usage period=MONTH:%d allowance=100 used=100 remaining=0"}'
+    steps = [
+        (request(b"PUT", b"/_admin/apis/keyed", KEYED), DONE),
+        (request(b"POST", b"/_admin/apis/keyed/deployments"), json_answer(b"200 OK", b'{"reply":"deployed 1"}')),
+        (request(b"PUT", b"/_admin/apis/keyed/stages/v1", b"1"), DONE),
+        (request(b"PUT", b"/_admin/keys/ann", b"ann-has-this-key on"), DONE),
+        (request(b"PUT", b"/_admin/plans/basic", b"- 100:0:MONTH keyed/v1"), DONE),
+        (KEYED_CALL % b"ann-has-this-key", own_answer(b"403 Forbidden", b"INVALID_API_KEY", b"Forbidden")),
+        (request(b"PUT", b"/_admin/plans/basic/keys/ann"), DONE),
+    ]
+    with Client(server.port) as client:
+        for asked, answer in steps:
+            client.calls(f"to {asked[:60]}", asked, answer)
+    counts = queue.Queue()
+    good = proxied(b"200 OK", b"ann")
+    over = own_answer(b"429 Too Many Requests", b"QUOTA_EXCEEDED", b"Limit Exceeded")
+
+    def work(_):
+        answered = 0
+        with Client(server.port) as client:
+            for _ in range(100):
+                client.send(KEYED_CALL % b"ann-has-this-key")
+                got = client.read(len(good))
+                if got == good:
+                    answered += 1
+                else:
+                    expect("a call over the quota", got + client.read(len(over) - len(good)), over)
+        counts.put(answered)
+
+    at_once(2, work)
+    expect("the calls that were answered", counts.get() + counts.get(), 100)
+    now = time.gmtime()
+    month = 12 * (now.tm_year - 1970) + now.tm_mon - 1
+    steps = [
+        (request(b"GET", b"/_admin/plans/basic/keys/ann/usage"), json_answer(b"200 OK", used % month)),
+        (request(b"POST", b"/_admin/plans/basic/keys/ann/grant", b"1"), DONE),
+        (KEYED_CALL % b"ann-has-this-key", good),
+        (KEYED_CALL % b"ann-has-this-key", over),
+        (KEYED_CALL % b"none-has-this", own_answer(b"403 Forbidden", b"INVALID_API_KEY", b"Forbidden")),
+        (request(b"PUT", b"/_admin/keys/ann", b"ann-has-this-key off"), DONE),
+        (KEYED_CALL % b"ann-has-this-key", own_answer(b"403 Forbidden", b"INVALID_API_KEY", b"Forbidden")),
+        (request(b"PUT", b"/_admin/keys/ann", b"ann-has-this-key on"), DONE),
+        (request(b"POST", b"/_admin/plans/basic/keys/ann/grant", b"1"), DONE),
+        (request(b"PUT", b"/_admin/plans/basic", b"1:1 100:0:MONTH keyed/v1"), DONE),
+        (KEYED_CALL % b"ann-has-this-key", good),
+        (KEYED_CALL % b"ann-has-this-key", own_answer(b"429 Too Many Requests", b"THROTTLED", b"Too Many Requests")),
+    ]
+    with Client(server.port) as client:
+        for asked, answer in steps:
+            client.calls(f"to {asked[:60]}", asked, answer)
+
+
 class Backend:
     """A backend on the loopback, which replies by the path of a request and keeps what it was sent."""
 
@@ -867,6 +928,7 @@ TESTS = [
     a_file_that_is_no_store_is_told,
     a_stage_shows_its_deployment_and_its_variables,
     requests_to_a_document_are_checked,
+    calls_count_against_their_quota,
     integrations_reach_their_backend,
     the_pets_are_called,
     the_examples_do_what_stands_beside_them,

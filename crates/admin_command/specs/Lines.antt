@@ -8,7 +8,7 @@ use Rattle.play_script.specs.Records.{record_in}
 use Rattle.play_script.specs.declared.records.LineFault.{LineFault}
 use Rattle.play_script.specs.declared.records.LineFault.TheVariants.{BadRecord}
 use Rattle.play_script.specs.declared.records.Record.{Record}
-use Rattle.play_script.specs.declared.records.Record.TheVariants.{PutText, PutDocument, Deploy, PutStage, Shutdown, Post, Call}
+use Rattle.play_script.specs.declared.records.Record.TheVariants.{PutText, PutDocument, Ask, Post, Call}
 use Rattle.admin_command.specs.declared.orders.Order.{Order}
 
 -- a command at its moment, or why the line has none
@@ -27,9 +27,7 @@ put_by moment api (Err fault) = Err fault
 abbrev pub asked_by : Record → Asked
 asked_by (PutText moment api template) = put_by moment api (taken (text template))
 asked_by (PutDocument moment api source) = put_by moment api (taken (document source))
-asked_by (Deploy moment api) = ordered moment (command.Deploy api)
-asked_by (PutStage moment api stage deployment variables) = ordered moment (command.PutStage api stage deployment (record { pairs = variables }))
-asked_by (Shutdown moment) = ordered moment command.Shutdown
+asked_by (Ask moment asked) = ordered moment asked
 asked_by (Post moment word api stage body) = Err BadRecord
 asked_by (Call moment word bytes outcomes) = Err BadRecord
 

@@ -5,8 +5,7 @@ ghost use Rattle.admin_command.specs.Lines.{put_by, asked_by as asked_by_record,
 use crate::orders::Order;
 use api_model::Api;
 use book_rules::Command;
-use call_facts::Vars;
-use gw_base::{Memory, Seq, Shared, Text};
+use gw_base::{Memory, Shared, Text};
 use play_script::{LineFault, Record, record_in, take_document, take_text};
 use std::alloc::Global;
 
@@ -32,27 +31,6 @@ fn put(
     }
 }
 
-// Points a stage to a deployment, with its variables.
-fn put_stage(
-    alloc: Global,
-    moment: u64,
-    api: Text,
-    stage: Text,
-    deployment: u32,
-    variables: Seq<(Text, Text)>,
-) -> Result<Asked, Memory>
-    ensures { IfOk result (λ asked. asked ≡ asked_by_record (Record.PutStage moment api stage deployment variables)) }
-{
-    let variables = Shared::new(alloc, Vars { pairs: variables })?;
-    let command = Command::PutStage {
-        api,
-        stage,
-        deployment,
-        variables,
-    };
-    Ok(Ok(Order { moment, command }))
-}
-
 // What a record asks for.
 fn asked_by(alloc: Global, found: Record) -> Result<Asked, Memory>
     ensures { IfOk result (λ asked. asked ≡ asked_by_record found) }
@@ -74,21 +52,7 @@ fn asked_by(alloc: Global, found: Record) -> Result<Asked, Memory>
             let taken = take_document(alloc, document.as_str())?;
             put(alloc, moment, api, taken)
         }
-        Record::Deploy { moment, api } => Ok(Ok(Order {
-            moment,
-            command: Command::Deploy { api },
-        })),
-        Record::PutStage {
-            moment,
-            api,
-            stage,
-            deployment,
-            variables,
-        } => put_stage(alloc, moment, api, stage, deployment, variables),
-        Record::Shutdown { moment } => Ok(Ok(Order {
-            moment,
-            command: Command::Shutdown,
-        })),
+        Record::Ask { moment, command } => Ok(Ok(Order { moment, command })),
         Record::Post { .. } | Record::Call { .. } => Ok(Err(LineFault::BadRecord)),
     }
 }

@@ -1,107 +1,66 @@
 -- How a router of the table searches.
-use Rattle.std.proofs.Common.{◌≡◌, ℕ, zero, suc, ◌+◌, ◌-◌, ◌==◌, Bool, true, false, cond, ◌&&◌, length, length-append, drop_of_length-le, List, [], ◌∷◌, ◌++◌, codes, bytes_eq, Option, Some, None, Result, Ok, Err, IsUtf8, refl, ap, sym, ◌∙◌, arith, le_refl}
+use Rattle.std.proofs.Common.{◌≡◌, ℕ, zero, suc, ◌==◌, Bool, true, false, cond, ◌&&◌, List, [], ◌∷◌, ◌++◌, codes, bytes_eq, Option, Some, None, Result, Ok, Err, IsUtf8, refl, ap, sym, ◌∙◌, arith}
 use Rattle.std.specs.List.{slice_split, join_with_byte}
 use Rattle.std.specs.Option.{option_and_then, option_map}
-use Rattle.std.proofs.Math.Seq.{drop-append_seam}
 use Rattle.std.proofs.lemmas.List.Splits.{join_with_byte-slice_split}
 use Rattle.record_fields.proofs.Utf8.{bytes_from_utf8}
 use Rattle.matchit.specs.Rows.{Rows, prepend}
-use Rattle.matchit.specs.Seek.{first, longest_suffix, cuts, or_else, param_step, seek}
+use Rattle.matchit.specs.Seek.{first, or_else, seek}
 use Rattle.matchit.specs.Level.{IsText}
 use Rattle.matchit.specs.declared.error.InsertError.{InsertError}
 use Rattle.matchit.specs.Route.{Scan, parse_route, scan_start}
 use Rattle.matchit.specs.Router.{RouteOf, map_key, rename, route_from}
 use Rattle.matchit.proofs.OnLiterals.{matchit_on_literals}
 use Rattle.matchit.proofs.RenameLemmas.{seek-rename}
-use Rattle.matchit.proofs.SeekLemmas.{seek-drop, seek-empty}
-use Rattle.admin_paths.specs.Paths.{is_apis, is_parameter, path_in, read_by}
-use Rattle.admin_paths.specs.Router.{form_of, rows}
+use Rattle.matchit.proofs.SeekLemmas.{seek-empty}
+use Rattle.admin_paths.specs.Paths.{is_apis, is_keys, is_parameter, is_plan_key, is_plans, is_stage, path_in, read_by}
+use Rattle.admin_paths.specs.Router.{form_of, rows, table}
 use Rattle.admin_paths.specs.declared.paths.AdminPath.{AdminPath}
 use Rattle.admin_paths.specs.declared.paths.AdminPath.TheVariants as path
 use Rattle.admin_paths.specs.declared.table.Form.{Form}
-use Rattle.admin_paths.specs.declared.table.Form.TheVariants.{Document, Template, Deployments, Stage, Shutdown}
-use Rattle.admin_paths.proofs.Segments.{AllPlain, Plain, has_one, is_cut, is_not_cut, no_slash, no_slash_in, plain_by, segment_until, segment_whole, split_plain, text_by}
-use Rattle.admin_paths.proofs.Steps.{behind, exactly, fork, not_behind, wild}
+use Rattle.admin_paths.specs.declared.table.Form.TheVariants.{Document, Template, Deployments, Stage, Canary, Promote, Key, Plan, PlanKey, Grant, Usage, Shutdown}
+use Rattle.admin_paths.proofs.Behind.{ending, ends_here, goes_on}
+use Rattle.admin_paths.proofs.Segments.{AllPlain, Plain, no_slash_in, plain_by, split_plain, text_by}
+use Rattle.admin_paths.proofs.Steps.{behind, exactly, fork, not_behind}
 
--- behind a stage
+-- behind a stage and a slash
+abbrev canary_rows : Rows
+canary_rows = prepend (codes "canary") (([], 4) ∷ []) ++ prepend (codes "promote") (([], 5) ∷ [])
+
+-- behind `stages` and a slash
 abbrev stage_rows : Rows
-stage_rows = ([], 3) ∷ []
+stage_rows = prepend (256 ∷ []) (ending 3 canary_rows)
 
 -- behind an API and a slash
-abbrev part_rows : Rows
-part_rows = prepend (codes "deployments") (([], 2) ∷ []) ++ (prepend (codes "stages" ++ 47 ∷ []) (prepend (256 ∷ []) stage_rows) ++ prepend (codes "text") (([], 1) ∷ []))
-
--- behind an API
 abbrev api_rows : Rows
-api_rows = prepend (47 ∷ []) part_rows ++ ([], 0) ∷ []
+api_rows = prepend (codes "deployments") (([], 2) ∷ []) ++ (prepend (codes "stages" ++ 47 ∷ []) stage_rows ++ prepend (codes "text") (([], 1) ∷ []))
 
--- the table's rows, by numbers
+-- behind a plan's key and a slash
+abbrev grant_rows : Rows
+grant_rows = prepend (codes "grant") (([], 9) ∷ []) ++ prepend (codes "usage") (([], 10) ∷ [])
+
+-- behind a plan, `keys` and a slash
+abbrev plan_key_rows : Rows
+plan_key_rows = prepend (256 ∷ []) (ending 8 grant_rows)
+
+-- behind a plan and a slash
+abbrev plan_rows : Rows
+plan_rows = prepend (codes "keys" ++ 47 ∷ []) plan_key_rows
+
+-- the table's rows, by numbers: those of APIs, of keys and of plans, and the last one
+abbrev apis : Rows
+apis = prepend (256 ∷ []) (ending 0 api_rows)
+
+abbrev keys : Rows
+keys = prepend (256 ∷ []) (ending 6 [])
+
+abbrev plans : Rows
+plans = prepend (256 ∷ []) (ending 7 plan_rows)
+
 abbrev numbered : Rows
-numbered = prepend (codes "apis" ++ 47 ∷ []) (prepend (256 ∷ []) api_rows) ++ prepend (codes "shutdown") (([], 4) ∷ [])
-
--- an API at the end of a path, and with more behind it
-longest_cut : (seg : List ℕ) → cuts seg (47 ∷ []) ≡ true → longest_suffix seg api_rows ≡ 47 ∷ []
-longest_cut seg e = rw e refl
-
-longest_whole : (seg : List ℕ) → cuts seg (47 ∷ []) ≡ false → longest_suffix seg api_rows ≡ []
-longest_whole seg e = rw e refl
-
-step_cut : (b : ℕ) (s r : List ℕ) → Plain (b ∷ s) → param_step api_rows (b ∷ s ++ 47 ∷ r) ≡ (length (b ∷ s ++ 47 ∷ []) - 1, prepend (47 ∷ []) part_rows)
-unfolding param_step
-step_cut b s r h = rw (segment_until (b ∷ s) r h, longest_cut (b ∷ s ++ 47 ∷ []) (is_cut b s)) refl
-
-step_whole : (b : ℕ) (s : List ℕ) → Plain (b ∷ s) → param_step api_rows (b ∷ s) ≡ (length (b ∷ s), api_rows)
-unfolding param_step
-step_whole b s h = rw (segment_whole (b ∷ s) h, longest_whole (b ∷ s) (is_not_cut (b ∷ s) h), no_slash (b ∷ s) h) refl
-
-api_last : (s : List ℕ) → Plain s → seek 0 (prepend (256 ∷ []) api_rows) s ≡ cond (is_parameter s) (Some 0) None
-unfolding seek
-api_last [] h = refl
-api_last (b ∷ s) h =
-    let n : suc (length s) - 1 ≡ length s = omega arith in
-    wild api_rows b s h.0 ∙ rw (step_whole b s h) (seek-drop (suc (length s) - 1) api_rows s ∙ rw (n, drop_of_length-le s (le_refl (length s))) refl)
-
-api_more : (s r : List ℕ) → Plain s → seek 0 (prepend (256 ∷ []) api_rows) (s ++ 47 ∷ r) ≡ cond (is_parameter s) (seek 0 part_rows r) None
-unfolding param_step
-api_more [] r h = wild api_rows 47 r (omega arith) ∙ seek-empty 0 r
-api_more (b ∷ s) r h =
-    let l : length (s ++ 47 ∷ []) ≡ length s + 1 = length-append s (47 ∷ []) in
-    let n : suc (length (s ++ 47 ∷ [])) - 1 - 1 ≡ length s = omega arith in
-    wild api_rows b (s ++ 47 ∷ r) h.0 ∙ rw (step_cut b s r h)
-    (seek-drop (suc (length (s ++ 47 ∷ [])) - 1 - 1) (prepend (47 ∷ []) part_rows) (s ++ 47 ∷ r) ∙ rw (n, drop-append_seam s (47 ∷ r)) (behind [] [] r part_rows tt tt))
-
--- a stage at the end of a path, and with more behind it
-stage_step : (b : ℕ) (s : List ℕ) → Plain (b ∷ s) → param_step stage_rows (b ∷ s) ≡ (length (b ∷ s), stage_rows)
-unfolding param_step
-stage_step b s h = rw (no_slash (b ∷ s) h) refl
-
-stage_past : (s r : List ℕ) → param_step stage_rows (s ++ 47 ∷ r) ≡ (0, [])
-unfolding param_step
-stage_past s r = rw (has_one s r) refl
-
-stage_last : (s : List ℕ) → Plain s → seek 0 (prepend (256 ∷ []) stage_rows) s ≡ cond (is_parameter s) (Some 3) None
-unfolding seek
-stage_last [] h = refl
-stage_last (b ∷ s) h =
-    let n : suc (length s) - 1 ≡ length s = omega arith in
-    wild stage_rows b s h.0 ∙ rw (stage_step b s h) (seek-drop (suc (length s) - 1) stage_rows s ∙ rw (n, drop_of_length-le s (le_refl (length s))) refl)
-
-stage_more : (s r : List ℕ) → Plain s → seek 0 (prepend (256 ∷ []) stage_rows) (s ++ 47 ∷ r) ≡ None
-stage_more [] r h = wild stage_rows 47 r (omega arith) ∙ rw (stage_past [] r) (seek-empty 0 r)
-stage_more (b ∷ s) r h = wild stage_rows b (s ++ 47 ∷ r) h.0 ∙ rw (stage_past (b ∷ s) r) (seek-empty 0 (s ++ 47 ∷ r))
-
-or_none : (found : Option ℕ) → or_else found None ≡ found
-or_none None = refl
-or_none (Some n) = refl
-
--- the three parts of an API
-part_fork : (p : List ℕ) → seek 0 part_rows p
-    ≡ or_else (seek 0 (prepend (codes "deployments") (([], 2) ∷ [])) p)
-    (or_else (seek 0 (prepend (codes "stages" ++ 47 ∷ []) (prepend (256 ∷ []) stage_rows)) p) (seek 0 (prepend (codes "text") (([], 1) ∷ [])) p))
-part_fork p =
-    fork 100 (codes "eployments") (([], 2) ∷ []) (prepend (codes "stages" ++ 47 ∷ []) (prepend (256 ∷ []) stage_rows) ++ prepend (codes "text") (([], 1) ∷ [])) p (omega arith) refl refl refl
-    ∙ ap (or_else (seek 0 (prepend (codes "deployments") (([], 2) ∷ [])) p))
-    (fork 115 (codes "tages" ++ 47 ∷ []) (prepend (256 ∷ []) stage_rows) (prepend (codes "text") (([], 1) ∷ [])) p (omega arith) refl refl refl)
+numbered =
+    prepend (codes "apis" ++ 47 ∷ []) apis
+    ++ (prepend (codes "keys" ++ 47 ∷ []) keys ++ (prepend (codes "plans" ++ 47 ∷ []) plans ++ prepend (codes "shutdown") (([], 11) ∷ [])))
 
 -- the number of a path of the table
 abbrev number : AdminPath → ℕ
@@ -109,10 +68,24 @@ number (path.Document api) = 0
 number (path.Template api) = 1
 number (path.Deployments api) = 2
 number (path.Stage api stage) = 3
-number path.Shutdown = 4
+number (path.Canary api stage) = 4
+number (path.Promote api stage) = 5
+number (path.Key key) = 6
+number (path.Plan plan) = 7
+number (path.PlanKey plan key) = 8
+number (path.Grant plan key) = 9
+number (path.Usage plan key) = 10
+number path.Shutdown = 11
 
+-- no literal has a slash
 plain_apis : Plain (codes "apis")
 plain_apis = plain_by (codes "apis") refl
+
+plain_keys : Plain (codes "keys")
+plain_keys = plain_by (codes "keys") refl
+
+plain_plans : Plain (codes "plans")
+plain_plans = plain_by (codes "plans") refl
 
 plain_stages : Plain (codes "stages")
 plain_stages = plain_by (codes "stages") refl
@@ -126,52 +99,163 @@ plain_text = plain_by (codes "text") refl
 plain_shutdown : Plain (codes "shutdown")
 plain_shutdown = plain_by (codes "shutdown") refl
 
-text_deployments : IsText (codes "deployments")
-text_deployments = text_by (codes "deployments") plain_deployments
+plain_canary : Plain (codes "canary")
+plain_canary = plain_by (codes "canary") refl
 
-text_text : IsText (codes "text")
-text_text = text_by (codes "text") plain_text
+plain_promote : Plain (codes "promote")
+plain_promote = plain_by (codes "promote") refl
 
-text_shutdown : IsText (codes "shutdown")
-text_shutdown = text_by (codes "shutdown") plain_shutdown
+plain_grant : Plain (codes "grant")
+plain_grant = plain_by (codes "grant") refl
 
--- what the rows give, by the segments
-part_last : (u : List ℕ) → Plain u → seek 0 part_rows u ≡ or_else (cond (bytes_eq u (codes "deployments")) (Some 2) None) (cond (bytes_eq u (codes "text")) (Some 1) None)
-part_last u h =
-    part_fork u ∙ rw (
-      exactly (codes "deployments") u 2 text_deployments,
-      not_behind (codes "stages") u (prepend (256 ∷ []) stage_rows) plain_stages h,
-      exactly (codes "text") u 1 text_text,
+plain_usage : Plain (codes "usage")
+plain_usage = plain_by (codes "usage") refl
+
+-- answers of which one or none is there
+or_none : (found : Option ℕ) → or_else found None ≡ found
+or_none None = refl
+or_none (Some n) = refl
+
+none_twice : (v w : Bool) → ◌≡◌ {A = Option ℕ} (cond v (cond w None None) None) None
+none_twice true true = refl
+none_twice true false = refl
+none_twice false w = refl
+
+-- a text of one segment behind a literal, alone or of two
+one : (w s : List ℕ) (k : ℕ) → Plain w → seek 0 (prepend w (([], k) ∷ [])) s ≡ cond (bytes_eq s w) (Some k) None
+one w s k h = exactly w s k (text_by w h)
+
+one_more : (w s r : List ℕ) (k : ℕ) → Plain w → seek 0 (prepend w (([], k) ∷ [])) (s ++ 47 ∷ r) ≡ None
+one_more w s r k h = exactly w (s ++ 47 ∷ r) k (text_by w h) ∙ rw (no_slash_in s r w h) refl
+
+-- behind a stage
+canary_fork : (p : List ℕ) → seek 0 canary_rows p ≡ or_else (seek 0 (prepend (codes "canary") (([], 4) ∷ [])) p) (seek 0 (prepend (codes "promote") (([], 5) ∷ [])) p)
+canary_fork p = fork 99 (codes "anary") (([], 4) ∷ []) (prepend (codes "promote") (([], 5) ∷ [])) p (omega arith) refl refl refl
+
+canary_last : (s : List ℕ) → seek 0 canary_rows s ≡ or_else (cond (bytes_eq s (codes "canary")) (Some 4) None) (cond (bytes_eq s (codes "promote")) (Some 5) None)
+canary_last s = canary_fork s ∙ rw (one (codes "canary") s 4 plain_canary, one (codes "promote") s 5 plain_promote) refl
+
+canary_more : (s r : List ℕ) → seek 0 canary_rows (s ++ 47 ∷ r) ≡ None
+canary_more s r = canary_fork (s ++ 47 ∷ r) ∙ rw (one_more (codes "canary") s r 4 plain_canary, one_more (codes "promote") s r 5 plain_promote) refl
+
+-- behind a plan's key
+grant_fork : (p : List ℕ) → seek 0 grant_rows p ≡ or_else (seek 0 (prepend (codes "grant") (([], 9) ∷ [])) p) (seek 0 (prepend (codes "usage") (([], 10) ∷ [])) p)
+grant_fork p = fork 103 (codes "rant") (([], 9) ∷ []) (prepend (codes "usage") (([], 10) ∷ [])) p (omega arith) refl refl refl
+
+grant_last : (s : List ℕ) → seek 0 grant_rows s ≡ or_else (cond (bytes_eq s (codes "grant")) (Some 9) None) (cond (bytes_eq s (codes "usage")) (Some 10) None)
+grant_last s = grant_fork s ∙ rw (one (codes "grant") s 9 plain_grant, one (codes "usage") s 10 plain_usage) refl
+
+grant_more : (s r : List ℕ) → seek 0 grant_rows (s ++ 47 ∷ r) ≡ None
+grant_more s r = grant_fork (s ++ 47 ∷ r) ∙ rw (one_more (codes "grant") s r 9 plain_grant, one_more (codes "usage") s r 10 plain_usage) refl
+
+-- behind an API
+api_fork : (p : List ℕ) → seek 0 api_rows p
+    ≡ or_else (seek 0 (prepend (codes "deployments") (([], 2) ∷ [])) p)
+    (or_else (seek 0 (prepend (codes "stages" ++ 47 ∷ []) stage_rows) p) (seek 0 (prepend (codes "text") (([], 1) ∷ [])) p))
+api_fork p =
+    fork 100 (codes "eployments") (([], 2) ∷ []) (prepend (codes "stages" ++ 47 ∷ []) stage_rows ++ prepend (codes "text") (([], 1) ∷ [])) p (omega arith) refl refl refl
+    ∙ ap (or_else (seek 0 (prepend (codes "deployments") (([], 2) ∷ [])) p))
+    (fork 115 (codes "tages" ++ 47 ∷ []) stage_rows (prepend (codes "text") (([], 1) ∷ [])) p (omega arith) refl refl refl)
+
+api_last : (u : List ℕ) → Plain u → seek 0 api_rows u ≡ or_else (cond (bytes_eq u (codes "deployments")) (Some 2) None) (cond (bytes_eq u (codes "text")) (Some 1) None)
+api_last u h =
+    api_fork u ∙ rw (
+      one (codes "deployments") u 2 plain_deployments,
+      not_behind (codes "stages") u stage_rows plain_stages h,
+      one (codes "text") u 1 plain_text,
     ) refl
 
-part_more : (u r : List ℕ) → Plain u → seek 0 part_rows (u ++ 47 ∷ r) ≡ cond (bytes_eq u (codes "stages")) (seek 0 (prepend (256 ∷ []) stage_rows) r) None
-part_more u r h =
-    part_fork (u ++ 47 ∷ r) ∙ rw (
-      exactly (codes "deployments") (u ++ 47 ∷ r) 2 text_deployments,
-      no_slash_in u r (codes "deployments") plain_deployments,
-      behind (codes "stages") u r (prepend (256 ∷ []) stage_rows) plain_stages h,
-      exactly (codes "text") (u ++ 47 ∷ r) 1 text_text,
-      no_slash_in u r (codes "text") plain_text,
+api_more : (u r : List ℕ) → Plain u → seek 0 api_rows (u ++ 47 ∷ r) ≡ cond (bytes_eq u (codes "stages")) (seek 0 stage_rows r) None
+api_more u r h =
+    api_fork (u ++ 47 ∷ r) ∙ rw (
+      one_more (codes "deployments") u r 2 plain_deployments,
+      behind (codes "stages") u r stage_rows plain_stages h,
+      one_more (codes "text") u r 1 plain_text,
     ) (or_none _)
 
+-- the whole table
 all_fork : (p : List ℕ) → seek 0 numbered p
-    ≡ or_else (seek 0 (prepend (codes "apis" ++ 47 ∷ []) (prepend (256 ∷ []) api_rows)) p) (seek 0 (prepend (codes "shutdown") (([], 4) ∷ [])) p)
-all_fork p = fork 97 (codes "pis" ++ 47 ∷ []) (prepend (256 ∷ []) api_rows) (prepend (codes "shutdown") (([], 4) ∷ [])) p (omega arith) refl refl refl
+    ≡ or_else (seek 0 (prepend (codes "apis" ++ 47 ∷ []) apis) p)
+    (or_else (seek 0 (prepend (codes "keys" ++ 47 ∷ []) keys) p)
+    (or_else (seek 0 (prepend (codes "plans" ++ 47 ∷ []) plans) p) (seek 0 (prepend (codes "shutdown") (([], 11) ∷ [])) p)))
+all_fork p =
+    let last = prepend (codes "shutdown") (([], 11) ∷ []) in
+    let later = prepend (codes "plans" ++ 47 ∷ []) plans in
+    let middle = prepend (codes "keys" ++ 47 ∷ []) keys in
+    fork 97 (codes "pis" ++ 47 ∷ []) apis (middle ++ (later ++ last)) p (omega arith) refl refl refl
+    ∙ ap (or_else (seek 0 (prepend (codes "apis" ++ 47 ∷ []) apis) p))
+    (fork 107 (codes "eys" ++ 47 ∷ []) keys (later ++ last) p (omega arith) refl refl refl
+    ∙ ap (or_else (seek 0 middle p)) (fork 112 (codes "lans" ++ 47 ∷ []) plans last p (omega arith) refl refl refl))
 
-all_last : (s : List ℕ) → Plain s → seek 0 numbered s ≡ cond (bytes_eq s (codes "shutdown")) (Some 4) None
+all_last : (s : List ℕ) → Plain s → seek 0 numbered s ≡ cond (bytes_eq s (codes "shutdown")) (Some 11) None
 all_last s h =
     all_fork s ∙ rw (
-      not_behind (codes "apis") s (prepend (256 ∷ []) api_rows) plain_apis h,
-      exactly (codes "shutdown") s 4 text_shutdown,
+      not_behind (codes "apis") s apis plain_apis h,
+      not_behind (codes "keys") s keys plain_keys h,
+      not_behind (codes "plans") s plans plain_plans h,
+      one (codes "shutdown") s 11 plain_shutdown,
     ) refl
 
-all_more : (s r : List ℕ) → Plain s → seek 0 numbered (s ++ 47 ∷ r) ≡ cond (bytes_eq s (codes "apis")) (seek 0 (prepend (256 ∷ []) api_rows) r) None
+-- behind the first literal
+abbrev three : Option ℕ → Option ℕ → Option ℕ → Option ℕ
+three a b c = or_else a (or_else b c)
+
+all_more : (s r : List ℕ) → Plain s → seek 0 numbered (s ++ 47 ∷ r)
+    ≡ three (cond (is_apis s) (seek 0 apis r) None) (cond (is_keys s) (seek 0 keys r) None) (cond (is_plans s) (seek 0 plans r) None)
 all_more s r h =
     all_fork (s ++ 47 ∷ r) ∙ rw (
-      behind (codes "apis") s r (prepend (256 ∷ []) api_rows) plain_apis h,
-      exactly (codes "shutdown") (s ++ 47 ∷ r) 4 text_shutdown,
-      no_slash_in s r (codes "shutdown") plain_shutdown,
-    ) (or_none _)
+      behind (codes "apis") s r apis plain_apis h,
+      behind (codes "keys") s r keys plain_keys h,
+      behind (codes "plans") s r plans plain_plans h,
+      one_more (codes "shutdown") s r 11 plain_shutdown,
+      or_none (cond (is_plans s) (seek 0 plans r) None),
+    ) refl
+
+-- a segment more behind a key
+keys_more : (t r : List ℕ) → Plain t → seek 0 keys (t ++ 47 ∷ r) ≡ None
+keys_more t r h = goes_on 6 [] t r h ∙ rw (seek-empty 0 r) (by (is_parameter t))
+  where
+    by : (v : Bool) → ◌≡◌ {A = Option ℕ} (cond v None None) None
+    by true = refl
+    by false = refl
+
+no_keys : (s t r : List ℕ) → Plain t → cond (is_keys s) (seek 0 keys (t ++ 47 ∷ r)) None ≡ None
+no_keys s t r h = rw (keys_more t r h) (by (is_keys s))
+  where
+    by : (v : Bool) → ◌≡◌ {A = Option ℕ} (cond v None None) None
+    by true = refl
+    by false = refl
+
+-- behind a plan
+plans_more : (s t u r : List ℕ) → Plain t → Plain u
+    → cond (is_plans s) (seek 0 plans (t ++ 47 ∷ (u ++ 47 ∷ r))) None ≡ cond (is_plans s && is_parameter t && is_keys u) (seek 0 plan_key_rows r) None
+plans_more s t u r h k = rw (goes_on 7 plan_rows t (u ++ 47 ∷ r) h, behind (codes "keys") u r plan_key_rows plain_keys k) (by (is_plans s) (is_parameter t))
+  where
+    by : (v w : Bool) → cond v (cond w (cond (is_keys u) (seek 0 plan_key_rows r) None) None) None ≡ cond (v && w && is_keys u) (seek 0 plan_key_rows r) None
+    by true true = refl
+    by true false = refl
+    by false w = refl
+
+plans_part : (s t u : List ℕ) → Plain t → Plain u → cond (is_plans s) (seek 0 plans (t ++ 47 ∷ u)) None ≡ None
+plans_part s t u h k = rw (goes_on 7 plan_rows t u h, not_behind (codes "keys") u plan_key_rows plain_keys k) (none_twice (is_plans s) (is_parameter t))
+
+-- behind a stage
+apis_more : (s t u r : List ℕ) → Plain t → Plain u
+    → cond (is_apis s) (seek 0 apis (t ++ 47 ∷ (u ++ 47 ∷ r))) None ≡ cond (is_apis s && is_parameter t && bytes_eq u (codes "stages")) (seek 0 stage_rows r) None
+apis_more s t u r h k = rw (goes_on 0 api_rows t (u ++ 47 ∷ r) h, api_more u r k) (by (is_apis s) (is_parameter t))
+  where
+    by : (v w : Bool) → cond v (cond w (cond (bytes_eq u (codes "stages")) (seek 0 stage_rows r) None) None) None
+        ≡ cond (v && w && bytes_eq u (codes "stages")) (seek 0 stage_rows r) None
+    by true true = refl
+    by true false = refl
+    by false w = refl
+
+-- four segments and more
+all_behind : (s t u r : List ℕ) → Plain s → Plain t → Plain u → seek 0 numbered (s ++ 47 ∷ (t ++ 47 ∷ (u ++ 47 ∷ r)))
+    ≡ or_else (cond (is_apis s && is_parameter t && bytes_eq u (codes "stages")) (seek 0 stage_rows r) None)
+    (cond (is_plans s && is_parameter t && is_keys u) (seek 0 plan_key_rows r) None)
+all_behind s t u r h k l =
+    all_more s (t ++ 47 ∷ (u ++ 47 ∷ r)) h ∙ rw (apis_more s t u r k l, no_keys s t (u ++ 47 ∷ r) k, plans_more s t u r k l) refl
 
 -- the rows find what the table has
 found : (segments : List (List ℕ)) → AllPlain segments → seek 0 numbered (join_with_byte 47 segments) ≡ option_map number (path_in segments)
@@ -179,18 +263,31 @@ unfolding path_in
 found [] h = all_last [] tt
 found (s ∷ []) h = all_last s h.0 ∙ by (bytes_eq s (codes "shutdown"))
   where
-    by : (v : Bool) → cond v (Some 4) None ≡ option_map number (cond v (Some path.Shutdown) None)
+    by : (v : Bool) → cond v (Some 11) None ≡ option_map number (cond v (Some path.Shutdown) None)
     by true = refl
     by false = refl
-found (s ∷ t ∷ []) h = all_more s t h.0 ∙ rw (api_last t h.1.0) (by (is_apis s) (is_parameter t))
+found (s ∷ t ∷ []) h =
+    all_more s t h.0 ∙ rw (ends_here 0 api_rows t h.1.0, ends_here 6 [] t h.1.0, ends_here 7 plan_rows t h.1.0)
+    (by (is_apis s) (is_keys s) (is_plans s) (is_parameter t))
   where
-    by : (v w : Bool) → cond v (cond w (Some 0) None) None ≡ option_map number (cond (v && w) (Some (path.Document t)) None)
-    by true true = refl
-    by true false = refl
-    by false w = refl
+    by : (a k p w : Bool) → three (cond a (cond w (Some 0) None) None) (cond k (cond w (Some 6) None) None) (cond p (cond w (Some 7) None) None)
+        ≡ option_map number (cond (a && w) (Some (path.Document t)) (cond (k && w) (Some (path.Key t)) (cond (p && w) (Some (path.Plan t)) None)))
+    by true k p true = refl
+    by false true p true = refl
+    by false false true true = refl
+    by false false false true = refl
+    by true true true false = refl
+    by true true false false = refl
+    by true false true false = refl
+    by true false false false = refl
+    by false true true false = refl
+    by false true false false = refl
+    by false false true false = refl
+    by false false false false = refl
 found (s ∷ t ∷ u ∷ []) h =
-    all_more s (t ++ 47 ∷ u) h.0 ∙ rw (api_more t u h.1.0, part_last u h.1.1.0)
-    (by (is_apis s) (is_parameter t) (bytes_eq u (codes "deployments")) (bytes_eq u (codes "text")))
+    all_more s (t ++ 47 ∷ u) h.0
+    ∙ rw (goes_on 0 api_rows t u h.1.0, api_last u h.1.1.0, no_keys s t u h.1.0, plans_part s t u h.1.0 h.1.1.0)
+    (or_none _ ∙ by (is_apis s) (is_parameter t) (bytes_eq u (codes "deployments")) (bytes_eq u (codes "text")))
   where
     by : (v w x y : Bool) → cond v (cond w (or_else (cond x (Some 2) None) (cond y (Some 1) None)) None) None
         ≡ option_map number (cond (v && w && x) (Some (path.Deployments t)) (cond (v && w && y) (Some (path.Template t)) None))
@@ -200,48 +297,70 @@ found (s ∷ t ∷ u ∷ []) h =
     by true false x y = refl
     by false w x y = refl
 found (s ∷ t ∷ u ∷ a ∷ []) h =
-    all_more s (t ++ 47 ∷ (u ++ 47 ∷ a)) h.0 ∙ rw (api_more t (u ++ 47 ∷ a) h.1.0, part_more u a h.1.1.0, stage_last a h.1.1.1.0)
-    (by (is_apis s) (is_parameter t) (bytes_eq u (codes "stages")) (is_parameter a))
+    all_behind s t u a h.0 h.1.0 h.1.1.0 ∙ rw (ends_here 3 canary_rows a h.1.1.1.0, ends_here 8 grant_rows a h.1.1.1.0)
+    (by (is_apis s && is_parameter t && bytes_eq u (codes "stages")) (is_plans s && is_parameter t && is_keys u) (is_parameter a))
   where
-    by : (v w x y : Bool) → cond v (cond w (cond x (cond y (Some 3) None) None) None) None
-        ≡ option_map number (cond (v && w && x && y) (Some (path.Stage t a)) None)
-    by true true true true = refl
-    by true true true false = refl
-    by true true false y = refl
-    by true false x y = refl
-    by false w x y = refl
-found (s ∷ t ∷ u ∷ a ∷ b ∷ rest) h =
-    let r = join_with_byte 47 (b ∷ rest) in
-    all_more s (t ++ 47 ∷ (u ++ 47 ∷ (a ++ 47 ∷ r))) h.0
-    ∙ rw (api_more t (u ++ 47 ∷ (a ++ 47 ∷ r)) h.1.0, part_more u (a ++ 47 ∷ r) h.1.1.0, stage_more a r h.1.1.1.0) (by (is_apis s) (is_parameter t) (bytes_eq u (codes "stages")))
+    by : (v w x : Bool) → or_else (cond v (cond x (Some 3) None) None) (cond w (cond x (Some 8) None) None)
+        ≡ option_map number (cond (v && x) (Some (path.Stage t a)) (cond (w && x) (Some (path.PlanKey t a)) None))
+    by true w true = refl
+    by false true true = refl
+    by false false true = refl
+    by true true false = refl
+    by true false false = refl
+    by false true false = refl
+    by false false false = refl
+found (s ∷ t ∷ u ∷ a ∷ b ∷ []) h =
+    all_behind s t u (a ++ 47 ∷ b) h.0 h.1.0 h.1.1.0
+    ∙ rw (goes_on 3 canary_rows a b h.1.1.1.0, goes_on 8 grant_rows a b h.1.1.1.0, canary_last b, grant_last b)
+    (by (is_apis s && is_parameter t && bytes_eq u (codes "stages")) (is_plans s && is_parameter t && is_keys u) (is_parameter a)
+    (bytes_eq b (codes "canary")) (bytes_eq b (codes "promote")) (bytes_eq b (codes "grant")) (bytes_eq b (codes "usage")))
   where
-    by : (v w x : Bool) → cond v (cond w (cond x None None) None) None ≡ option_map number None
+    by : (v w x c d e f : Bool)
+        → or_else (cond v (cond x (or_else (cond c (Some 4) None) (cond d (Some 5) None)) None) None) (cond w (cond x (or_else (cond e (Some 9) None) (cond f (Some 10) None)) None) None)
+        ≡ option_map number (cond (v && x && c) (Some (path.Canary t a)) (cond (v && x && d) (Some (path.Promote t a))
+        (cond (w && x && e) (Some (path.Grant t a)) (cond (w && x && f) (Some (path.Usage t a)) None))))
+    by true w true true d e f = refl
+    by true w true false true e f = refl
+    by true true true false false true f = refl
+    by true true true false false false true = refl
+    by true true true false false false false = refl
+    by true false true false false e f = refl
+    by false true true c d true f = refl
+    by false true true c d false true = refl
+    by false true true c d false false = refl
+    by false false true c d e f = refl
+    by true true false c d e f = refl
+    by true false false c d e f = refl
+    by false true false c d e f = refl
+    by false false false c d e f = refl
+found (s ∷ t ∷ u ∷ a ∷ b ∷ c ∷ rest) h =
+    let r = join_with_byte 47 (c ∷ rest) in
+    all_behind s t u (a ++ 47 ∷ (b ++ 47 ∷ r)) h.0 h.1.0 h.1.1.0
+    ∙ rw (goes_on 3 canary_rows a (b ++ 47 ∷ r) h.1.1.1.0, goes_on 8 grant_rows a (b ++ 47 ∷ r) h.1.1.1.0, canary_more b r, grant_more b r)
+    (by (is_apis s && is_parameter t && bytes_eq u (codes "stages")) (is_plans s && is_parameter t && is_keys u) (is_parameter a))
+  where
+    by : (v w x : Bool) → ◌≡◌ {A = Option ℕ} (or_else (cond v (cond x None None) None) (cond w (cond x None None) None)) None
     by true true true = refl
     by true true false = refl
-    by true false x = refl
-    by false w x = refl
+    by true false true = refl
+    by true false false = refl
+    by false true true = refl
+    by false true false = refl
+    by false false x = refl
 
 -- the routes of the table
 abbrev scan_of : Result Scan InsertError → Scan
 scan_of (Ok scan) = scan
 scan_of (Err error) = scan_start
 
-abbrev form_at : ℕ → Form
-form_at zero = Document
-form_at (suc zero) = Template
-form_at (suc (suc zero)) = Deployments
-form_at (suc (suc (suc zero))) = Stage
-form_at (suc (suc (suc (suc n)))) = Shutdown
-
-abbrev text_at : ℕ → List ℕ
-text_at zero = codes "apis/{api}"
-text_at (suc zero) = codes "apis/{api}/text"
-text_at (suc (suc zero)) = codes "apis/{api}/deployments"
-text_at (suc (suc (suc zero))) = codes "apis/{api}/stages/{stage}"
-text_at (suc (suc (suc (suc n)))) = codes "shutdown"
+-- the entries of the table by their numbers
+abbrev entry_at : List (List ℕ × Form) → ℕ → List ℕ × Form
+entry_at [] n = ([], Shutdown)
+entry_at (entry ∷ entries) zero = entry
+entry_at (entry ∷ entries) (suc n) = entry_at entries n
 
 abbrev route_at : ℕ → RouteOf Form
-route_at n = route_from (scan_of (parse_route (text_at n))) (form_at n)
+route_at n = route_from (scan_of (parse_route (entry_at table n).0)) (entry_at table n).1
 
 rows_are : rows ≡ rename route_at numbered
 unfolding matchit_on_literals
@@ -256,6 +375,13 @@ form_of_number (Some (path.Document api)) = refl
 form_of_number (Some (path.Template api)) = refl
 form_of_number (Some (path.Deployments api)) = refl
 form_of_number (Some (path.Stage api stage)) = refl
+form_of_number (Some (path.Canary api stage)) = refl
+form_of_number (Some (path.Promote api stage)) = refl
+form_of_number (Some (path.Key key)) = refl
+form_of_number (Some (path.Plan plan)) = refl
+form_of_number (Some (path.PlanKey plan key)) = refl
+form_of_number (Some (path.Grant plan key)) = refl
+form_of_number (Some (path.Usage plan key)) = refl
 form_of_number (Some path.Shutdown) = refl
 
 -- a router of the table finds the path that has these segments
@@ -268,29 +394,33 @@ finds text utf8 =
     ∙ form_of_number (path_in segments)
 
 -- the parameters at the places of its form are the path
+abbrev Reads : List (List ℕ) → Option AdminPath → Type 0
+Reads segments found = option_and_then (λ form. read_by form segments) (option_map form_of found) ≡ found
+
+either_reads : (segments : List (List ℕ)) (v : Bool) (this : AdminPath) (other : Option AdminPath) → read_by (form_of this) segments ≡ Some this → Reads segments other
+    → Reads segments (cond v (Some this) other)
+either_reads segments true this other e f = e
+either_reads segments false this other e f = f
+
 pub read_back : (segments : List (List ℕ)) → option_and_then (λ form. read_by form segments) (option_map form_of (path_in segments)) ≡ path_in segments
 unfolding path_in
 read_back [] = refl
-read_back (s ∷ []) = by (bytes_eq s (codes "shutdown"))
-  where
-    by : (v : Bool) → option_and_then (λ form. read_by form (s ∷ [])) (option_map form_of (cond v (Some path.Shutdown) None)) ≡ cond v (Some path.Shutdown) None
-    by true = refl
-    by false = refl
-read_back (s ∷ t ∷ []) = by (is_apis s && is_parameter t)
-  where
-    by : (v : Bool) → option_and_then (λ form. read_by form (s ∷ t ∷ [])) (option_map form_of (cond v (Some (path.Document t)) None)) ≡ cond v (Some (path.Document t)) None
-    by true = refl
-    by false = refl
-read_back (s ∷ t ∷ u ∷ []) = by (is_apis s && is_parameter t && bytes_eq u (codes "deployments")) (is_apis s && is_parameter t && bytes_eq u (codes "text"))
-  where
-    by : (v w : Bool) → option_and_then (λ form. read_by form (s ∷ t ∷ u ∷ [])) (option_map form_of (cond v (Some (path.Deployments t)) (cond w (Some (path.Template t)) None)))
-        ≡ cond v (Some (path.Deployments t)) (cond w (Some (path.Template t)) None)
-    by true w = refl
-    by false true = refl
-    by false false = refl
-read_back (s ∷ t ∷ u ∷ a ∷ []) = by (is_apis s && is_parameter t && bytes_eq u (codes "stages") && is_parameter a)
-  where
-    by : (v : Bool) → option_and_then (λ form. read_by form (s ∷ t ∷ u ∷ a ∷ [])) (option_map form_of (cond v (Some (path.Stage t a)) None)) ≡ cond v (Some (path.Stage t a)) None
-    by true = refl
-    by false = refl
-read_back (s ∷ t ∷ u ∷ a ∷ b ∷ rest) = refl
+read_back (s ∷ []) = either_reads (s ∷ []) (bytes_eq s (codes "shutdown")) path.Shutdown None refl refl
+read_back (s ∷ t ∷ []) =
+    let all = s ∷ t ∷ [] in
+    either_reads all (is_apis s && is_parameter t) (path.Document t) _ refl
+    (either_reads all (is_keys s && is_parameter t) (path.Key t) _ refl (either_reads all (is_plans s && is_parameter t) (path.Plan t) None refl refl))
+read_back (s ∷ t ∷ u ∷ []) =
+    let all = s ∷ t ∷ u ∷ [] in
+    either_reads all (is_apis s && is_parameter t && bytes_eq u (codes "deployments")) (path.Deployments t) _ refl
+    (either_reads all (is_apis s && is_parameter t && bytes_eq u (codes "text")) (path.Template t) None refl refl)
+read_back (s ∷ t ∷ u ∷ a ∷ []) =
+    let all = s ∷ t ∷ u ∷ a ∷ [] in
+    either_reads all (is_stage s t u a) (path.Stage t a) _ refl (either_reads all (is_plan_key s t u a) (path.PlanKey t a) None refl refl)
+read_back (s ∷ t ∷ u ∷ a ∷ b ∷ []) =
+    let all = s ∷ t ∷ u ∷ a ∷ b ∷ [] in
+    either_reads all (is_stage s t u a && bytes_eq b (codes "canary")) (path.Canary t a) _ refl
+    (either_reads all (is_stage s t u a && bytes_eq b (codes "promote")) (path.Promote t a) _ refl
+    (either_reads all (is_plan_key s t u a && bytes_eq b (codes "grant")) (path.Grant t a) _ refl
+    (either_reads all (is_plan_key s t u a && bytes_eq b (codes "usage")) (path.Usage t a) None refl refl)))
+read_back (s ∷ t ∷ u ∷ a ∷ b ∷ c ∷ rest) = refl

@@ -9,7 +9,7 @@ use Rattle.matchit.specs.declared.error.InsertError.{InsertError}
 use Rattle.admin_paths.specs.declared.paths.AdminPath.{AdminPath}
 use Rattle.admin_paths.specs.declared.paths.AdminPath.TheVariants as path
 use Rattle.admin_paths.specs.declared.table.Form.{Form}
-use Rattle.admin_paths.specs.declared.table.Form.TheVariants.{Document, Template, Deployments, Stage, Shutdown}
+use Rattle.admin_paths.specs.declared.table.Form.TheVariants.{Document, Template, Deployments, Stage, Canary, Promote, Key, Plan, PlanKey, Grant, Usage, Shutdown}
 
 abbrev pub Routes : Type 0
 Routes = RowsOf (RouteOf Form)
@@ -31,6 +31,13 @@ table =
     ∷ (codes "apis/{api}/text", Template)
     ∷ (codes "apis/{api}/deployments", Deployments)
     ∷ (codes "apis/{api}/stages/{stage}", Stage)
+    ∷ (codes "apis/{api}/stages/{stage}/canary", Canary)
+    ∷ (codes "apis/{api}/stages/{stage}/promote", Promote)
+    ∷ (codes "keys/{key}", Key)
+    ∷ (codes "plans/{plan}", Plan)
+    ∷ (codes "plans/{plan}/keys/{key}", PlanKey)
+    ∷ (codes "plans/{plan}/keys/{key}/grant", Grant)
+    ∷ (codes "plans/{plan}/keys/{key}/usage", Usage)
     ∷ (codes "shutdown", Shutdown) ∷ []
 
 abbrev pub rows : Routes
@@ -45,4 +52,11 @@ form_of (path.Document api) = Document
 form_of (path.Template api) = Template
 form_of (path.Deployments api) = Deployments
 form_of (path.Stage api stage) = Stage
+form_of (path.Canary api stage) = Canary
+form_of (path.Promote api stage) = Promote
+form_of (path.Key key) = Key
+form_of (path.Plan plan) = Plan
+form_of (path.PlanKey plan key) = PlanKey
+form_of (path.Grant plan key) = Grant
+form_of (path.Usage plan key) = Usage
 form_of path.Shutdown = Shutdown

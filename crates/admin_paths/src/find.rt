@@ -4,7 +4,7 @@ ghost use Rattle.std.specs.Borrow.{Bor};
 ghost use Rattle.std.specs.List.{slice_split};
 ghost use Rattle.std.specs.Option.{option_map};
 ghost use Rattle.matchit.specs.Seek.{first};
-ghost use Rattle.admin_paths.specs.Paths.{path_in, read_by as read_by_form};
+ghost use Rattle.admin_paths.specs.Paths.{path_in, read_by as read_by_form, with_one as with_one_of, with_two as with_two_of, without as without_of};
 ghost use Rattle.admin_paths.specs.Router.{form_of};
 
 use crate::paths::AdminPath;
@@ -49,25 +49,81 @@ fn copied(alloc: Global, segment: &str) -> Result<Text, Memory>
     Ok(Text::of(String::from_str(alloc, segment)?))
 }
 
+// The path of a form without parameters.
+fn without(form: Form) -> Option<AdminPath>
+    ensures { result ≡ without_of form }
+{
+    match form {
+        Form::Shutdown => Some(AdminPath::Shutdown),
+        _ => None,
+    }
+}
+
+// The path of a form with one parameter.
+fn with_one(alloc: Global, form: Form, segment: &str) -> Result<Option<AdminPath>, Memory>
+    ensures { IfOk result (λ path. path ≡ with_one_of form segment.now) }
+{
+    let name = copied(alloc, segment)?;
+    Ok(match form {
+        Form::Document => Some(AdminPath::Document { api: name }),
+        Form::Template => Some(AdminPath::Template { api: name }),
+        Form::Deployments => Some(AdminPath::Deployments { api: name }),
+        Form::Key => Some(AdminPath::Key { key: name }),
+        Form::Plan => Some(AdminPath::Plan { plan: name }),
+        _ => None,
+    })
+}
+
+// The path of a form with two.
+fn with_two(
+    alloc: Global,
+    form: Form,
+    first: &str,
+    second: &str,
+) -> Result<Option<AdminPath>, Memory>
+    ensures { IfOk result (λ path. path ≡ with_two_of form first.now second.now) }
+{
+    let first = copied(alloc, first)?;
+    let second = copied(alloc, second)?;
+    Ok(match form {
+        Form::Stage => Some(AdminPath::Stage {
+            api: first,
+            stage: second,
+        }),
+        Form::Canary => Some(AdminPath::Canary {
+            api: first,
+            stage: second,
+        }),
+        Form::Promote => Some(AdminPath::Promote {
+            api: first,
+            stage: second,
+        }),
+        Form::PlanKey => Some(AdminPath::PlanKey {
+            plan: first,
+            key: second,
+        }),
+        Form::Grant => Some(AdminPath::Grant {
+            plan: first,
+            key: second,
+        }),
+        Form::Usage => Some(AdminPath::Usage {
+            plan: first,
+            key: second,
+        }),
+        _ => None,
+    })
+}
+
 // The form of a path, with the parameters at their places.
 fn read_by(alloc: Global, form: Form, segments: &[&str]) -> Result<Option<AdminPath>, Memory>
     ensures { IfOk result (λ path. path ≡ read_by_form form (map (λ (part : Bor (List ℕ)). part.now) segments.now)) }
 {
-    match (form, segments) {
-        (Form::Document, [_, api]) => Ok(Some(AdminPath::Document {
-            api: copied(alloc, api)?,
-        })),
-        (Form::Template, [_, api, _]) => Ok(Some(AdminPath::Template {
-            api: copied(alloc, api)?,
-        })),
-        (Form::Deployments, [_, api, _]) => Ok(Some(AdminPath::Deployments {
-            api: copied(alloc, api)?,
-        })),
-        (Form::Stage, [_, api, _, stage]) => Ok(Some(AdminPath::Stage {
-            api: copied(alloc, api)?,
-            stage: copied(alloc, stage)?,
-        })),
-        (Form::Shutdown, [_]) => Ok(Some(AdminPath::Shutdown)),
+    match segments {
+        [_] => Ok(without(form)),
+        [_, name] => with_one(alloc, form, name),
+        [_, name, _] => with_one(alloc, form, name),
+        [_, first, _, second] => with_two(alloc, form, first, second),
+        [_, first, _, second, _] => with_two(alloc, form, first, second),
         _ => Ok(None),
     }
 }

@@ -12,6 +12,20 @@ pub enum AdminPath {
     Deployments { api: Text },
     /// A stage of an API.
     Stage { api: Text, stage: Text },
+    /// The canary of a stage.
+    Canary { api: Text, stage: Text },
+    /// The canary of a stage, as it becomes the stage's own.
+    Promote { api: Text, stage: Text },
+    /// An API key.
+    Key { key: Text },
+    /// A usage plan.
+    Plan { plan: Text },
+    /// A key of a plan.
+    PlanKey { plan: Text, key: Text },
+    /// The calls that a key of a plan is granted.
+    Grant { plan: Text, key: Text },
+    /// What a key of a plan has used.
+    Usage { plan: Text, key: Text },
     /// The session's end.
     Shutdown,
 }

@@ -18,15 +18,36 @@ pub enum Form {
     Deployments,
     /// `apis/{api}/stages/{stage}`
     Stage,
+    /// `apis/{api}/stages/{stage}/canary`
+    Canary,
+    /// `apis/{api}/stages/{stage}/promote`
+    Promote,
+    /// `keys/{key}`
+    Key,
+    /// `plans/{plan}`
+    Plan,
+    /// `plans/{plan}/keys/{key}`
+    PlanKey,
+    /// `plans/{plan}/keys/{key}/grant`
+    Grant,
+    /// `plans/{plan}/keys/{key}/usage`
+    Usage,
     /// `shutdown`
     Shutdown,
 }
 
-const TABLE: [(&str, Form); 5] = [
+const TABLE: [(&str, Form); 12] = [
     ("apis/{api}", Form::Document),
     ("apis/{api}/text", Form::Template),
     ("apis/{api}/deployments", Form::Deployments),
     ("apis/{api}/stages/{stage}", Form::Stage),
+    ("apis/{api}/stages/{stage}/canary", Form::Canary),
+    ("apis/{api}/stages/{stage}/promote", Form::Promote),
+    ("keys/{key}", Form::Key),
+    ("plans/{plan}", Form::Plan),
+    ("plans/{plan}/keys/{key}", Form::PlanKey),
+    ("plans/{plan}/keys/{key}/grant", Form::Grant),
+    ("plans/{plan}/keys/{key}/usage", Form::Usage),
     ("shutdown", Form::Shutdown),
 ];
 

@@ -1,9 +1,9 @@
 -- The answers to administration requests.
 use Rattle.std.specs.Prelude.{ℕ, List, [], ◌∷◌, ◌++◌, codes, None}
 use Rattle.std.specs.Fmt.{decimal}
-use Rattle.book_rules.specs.Printed.{refusal_name}
+use Rattle.book_rules.specs.Printed.{refusal_name, usage_text}
 use Rattle.book_rules.specs.declared.replies.Reply.{Reply}
-use Rattle.book_rules.specs.declared.replies.Reply.TheVariants.{Entered, NoStage, Store, Left, Done, Deployed, Refused}
+use Rattle.book_rules.specs.declared.replies.Reply.TheVariants.{Entered, NoStage, Admitted, InvalidKey, Throttled, QuotaExceeded, Store, Left, Done, Deployed, Usage, Refused}
 use Rattle.call_facts.specs.declared.answer.Answer.{Answer}
 use Rattle.gateway_vars.specs.Escapes.{json_string}
 use Rattle.method_flow.specs.declared.answers.Made.{Made}
@@ -28,18 +28,28 @@ abbrev pub reply_text : Reply → List ℕ
 reply_text Done = codes "done"
 reply_text (Deployed number) = codes "deployed " ++ decimal number
 reply_text (Refused refusal) = codes "refused " ++ refusal_name refusal
+reply_text (Usage usage) = usage_text usage
 reply_text Store = codes "store"
 reply_text NoStage = []
 reply_text (Entered view) = []
+reply_text (Admitted key plan) = []
+reply_text InvalidKey = []
+reply_text (Throttled level) = []
+reply_text (QuotaExceeded allowance used) = []
 reply_text (Left closing) = []
 
 abbrev pub reply_status : Reply → ℕ
 reply_status Done = 200
 reply_status (Deployed number) = 200
+reply_status (Usage usage) = 200
 reply_status (Refused refusal) = 409
 reply_status Store = 500
 reply_status NoStage = 500
 reply_status (Entered view) = 500
+reply_status (Admitted key plan) = 500
+reply_status InvalidKey = 500
+reply_status (Throttled level) = 500
+reply_status (QuotaExceeded allowance used) = 500
 reply_status (Left closing) = 500
 
 -- what the book replied

@@ -1,14 +1,15 @@
 -- The routes of the administration.
-use Rattle.std.specs.Prelude.{◌≡◌, ◌≢◌, ◌↔◌, ℕ, ◌==◌, Bool, true, ◌&&◌, List, [], ◌∷◌, ◌++◌, codes, Option, Some, None, if◌then◌else◌, ⊤}
-use Rattle.std.specs.List.{slice_split}
-use Rattle.std.specs.Option.{option_and_then, option_map}
+use Rattle.std.specs.Prelude.{◌≡◌, ◌↔◌, ℕ, ◌==◌, Bool, List, [], ◌∷◌, ◌++◌, codes, Option, Some, None, if◌then◌else◌, ⊤}
+use Rattle.std.specs.List.{list_all, slice_split}
+use Rattle.std.specs.Option.{option_and_then}
 use Rattle.std.specs.Str.{bytes_eq}
+use Rattle.admin_paths.specs.Paths.{path_in}
 use Rattle.admin_paths.specs.declared.paths.AdminPath.{AdminPath}
 use Rattle.admin_paths.specs.declared.paths.AdminPath.TheVariants as path
 use Rattle.call_facts.specs.declared.target.Target.{Target}
-use Rattle.record_fields.specs.Coding.{text_of}
+use Rattle.record_fields.specs.Coding.{is_utf8, text_of}
 use Rattle.admin_routes.specs.declared.routes.Route.{Route}
-use Rattle.admin_routes.specs.declared.routes.Route.TheVariants.{PutDocument, PutTemplate, Deploy, PutStage, Shutdown}
+use Rattle.admin_routes.specs.declared.routes.Route.TheVariants.{PutDocument, PutTemplate, Deploy, PutStage, PutCanary, Promote, PutKey, PutPlan, JoinKey, Grant, Usage, Shutdown}
 
 -- the first segment of the path is `_admin`, as it is written
 unfoldable pub is_admin : Target → Bool
@@ -28,31 +29,6 @@ abbrev pub parameter : List ℕ → Option (List ℕ)
 parameter [] = None
 parameter (b ∷ bs) = text_of (b ∷ bs)
 
-abbrev pub is_put : List ℕ → Bool
-is_put verb = bytes_eq verb (codes "PUT")
-
-abbrev pub is_post : List ℕ → Bool
-is_post verb = bytes_eq verb (codes "POST")
-
-abbrev pub is_apis : List ℕ → Bool
-is_apis segment = bytes_eq segment (codes "apis")
-
-abbrev pub stage_route : List ℕ → Option (List ℕ) → Option Route
-stage_route api stage = option_map (λ s. PutStage api s) stage
-
--- the route of a verb and of the segments behind `_admin`
-unfoldable pub route_in : List ℕ → List (List ℕ) → Option Route
-route_in verb [] = None
-route_in verb (only ∷ []) = if is_post verb && bytes_eq only (codes "shutdown") then Some Shutdown else None
-route_in verb (first ∷ api ∷ []) = if is_put verb && is_apis first then option_map PutDocument (parameter api) else None
-route_in verb (first ∷ api ∷ last ∷ []) =
-    if is_put verb && is_apis first && bytes_eq last (codes "text") then option_map PutTemplate (parameter api)
-    else if is_post verb && is_apis first && bytes_eq last (codes "deployments") then option_map Deploy (parameter api)
-    else None
-route_in verb (first ∷ api ∷ kind ∷ stage ∷ []) =
-    if is_put verb && is_apis first && bytes_eq kind (codes "stages") then option_and_then (λ a. stage_route a (parameter stage)) (parameter api) else None
-route_in verb (first ∷ api ∷ kind ∷ stage ∷ more ∷ rest) = None
-
 -- the path behind `/_admin/`, as one text
 abbrev pub behind_slash : List ℕ → List ℕ → List ℕ
 behind_slash stage [] = stage
@@ -67,6 +43,13 @@ verb_of (PutDocument api) = codes "PUT"
 verb_of (PutTemplate api) = codes "PUT"
 verb_of (Deploy api) = codes "POST"
 verb_of (PutStage api stage) = codes "PUT"
+verb_of (PutCanary api stage) = codes "PUT"
+verb_of (Promote api stage) = codes "POST"
+verb_of (PutKey key) = codes "PUT"
+verb_of (PutPlan plan) = codes "PUT"
+verb_of (JoinKey plan key) = codes "PUT"
+verb_of (Grant plan key) = codes "POST"
+verb_of (Usage plan key) = codes "GET"
 verb_of Shutdown = codes "POST"
 
 -- the route at a path of the table
@@ -75,23 +58,51 @@ route_of (path.Document api) = PutDocument api
 route_of (path.Template api) = PutTemplate api
 route_of (path.Deployments api) = Deploy api
 route_of (path.Stage api stage) = PutStage api stage
+route_of (path.Canary api stage) = PutCanary api stage
+route_of (path.Promote api stage) = Promote api stage
+route_of (path.Key key) = PutKey key
+route_of (path.Plan plan) = PutPlan plan
+route_of (path.PlanKey plan key) = JoinKey plan key
+route_of (path.Grant plan key) = Grant plan key
+route_of (path.Usage plan key) = Usage plan key
 route_of path.Shutdown = Shutdown
 
 abbrev pub route_at_path : List ℕ → AdminPath → Option Route
 route_at_path verb found = if bytes_eq verb (verb_of (route_of found)) then Some (route_of found) else None
+
+-- the route of a verb and of the segments behind `_admin`: that of the path that these are, where they are text and the verb is its own
+unfoldable pub route_in : List ℕ → List (List ℕ) → Option Route
+route_in verb segments = if list_all is_utf8 segments then option_and_then (route_at_path verb) (path_in segments) else None
 
 abbrev pub path_of : Route → List (List ℕ)
 path_of (PutDocument api) = codes "apis" ∷ api ∷ []
 path_of (PutTemplate api) = codes "apis" ∷ api ∷ codes "text" ∷ []
 path_of (Deploy api) = codes "apis" ∷ api ∷ codes "deployments" ∷ []
 path_of (PutStage api stage) = codes "apis" ∷ api ∷ codes "stages" ∷ stage ∷ []
+path_of (PutCanary api stage) = codes "apis" ∷ api ∷ codes "stages" ∷ stage ∷ codes "canary" ∷ []
+path_of (Promote api stage) = codes "apis" ∷ api ∷ codes "stages" ∷ stage ∷ codes "promote" ∷ []
+path_of (PutKey key) = codes "keys" ∷ key ∷ []
+path_of (PutPlan plan) = codes "plans" ∷ plan ∷ []
+path_of (JoinKey plan key) = codes "plans" ∷ plan ∷ codes "keys" ∷ key ∷ []
+path_of (Grant plan key) = codes "plans" ∷ plan ∷ codes "keys" ∷ key ∷ codes "grant" ∷ []
+path_of (Usage plan key) = codes "plans" ∷ plan ∷ codes "keys" ∷ key ∷ codes "usage" ∷ []
 path_of Shutdown = codes "shutdown" ∷ []
 
+abbrev pub IsParameter : List ℕ → Type 0
+IsParameter segment = parameter segment ≡ Some segment
+
 abbrev pub HasParameters : Route → Type 0
-HasParameters (PutDocument api) = parameter api ≡ Some api
-HasParameters (PutTemplate api) = parameter api ≡ Some api
-HasParameters (Deploy api) = parameter api ≡ Some api
-HasParameters (PutStage api stage) = (parameter api ≡ Some api) × (parameter stage ≡ Some stage)
+HasParameters (PutDocument api) = IsParameter api
+HasParameters (PutTemplate api) = IsParameter api
+HasParameters (Deploy api) = IsParameter api
+HasParameters (PutStage api stage) = IsParameter api × IsParameter stage
+HasParameters (PutCanary api stage) = IsParameter api × IsParameter stage
+HasParameters (Promote api stage) = IsParameter api × IsParameter stage
+HasParameters (PutKey key) = IsParameter key
+HasParameters (PutPlan plan) = IsParameter plan
+HasParameters (JoinKey plan key) = IsParameter plan × IsParameter key
+HasParameters (Grant plan key) = IsParameter plan × IsParameter key
+HasParameters (Usage plan key) = IsParameter plan × IsParameter key
 HasParameters Shutdown = ⊤
 
 -- A route is found exactly where the verb is its own and the path has its literals in their places and one segment with a byte for

@@ -81,9 +81,16 @@ fn reply_text(alloc: Global, reply: &Reply) -> Result<Text, Memory>
             line.push_str(name.as_str())?;
             Ok(Text::of(line))
         }
+        Reply::Usage(usage) => Ok(Text::of(usage.to_string(alloc)?)),
         Reply::Store => text(alloc, "store"),
         // These are replied to no command.
-        Reply::NoStage | Reply::Entered(_) | Reply::Left { .. } => text(alloc, ""),
+        Reply::NoStage
+        | Reply::Entered(_)
+        | Reply::Admitted { .. }
+        | Reply::InvalidKey
+        | Reply::Throttled { .. }
+        | Reply::QuotaExceeded { .. }
+        | Reply::Left { .. } => text(alloc, ""),
     }
 }
 
@@ -91,9 +98,16 @@ fn reply_status(reply: &Reply) -> u16
     ensures { result ≡ reply_status_of reply.now }
 {
     match reply {
-        Reply::Done | Reply::Deployed(_) => 200,
+        Reply::Done | Reply::Deployed(_) | Reply::Usage(_) => 200,
         Reply::Refused(_) => 409,
-        Reply::Store | Reply::NoStage | Reply::Entered(_) | Reply::Left { .. } => 500,
+        Reply::Store
+        | Reply::NoStage
+        | Reply::Entered(_)
+        | Reply::Admitted { .. }
+        | Reply::InvalidKey
+        | Reply::Throttled { .. }
+        | Reply::QuotaExceeded { .. }
+        | Reply::Left { .. } => 500,
     }
 }
 

@@ -4,6 +4,7 @@ ghost use Rattle.record_fields.specs.Coding.{text_of as text_in};
 ghost use Rattle.api_model.specs.Definition.{document, stated, text};
 ghost use Rattle.admin_routes.specs.Asked.{asked_by, fault_line as fault_line_of, no_record as no_record_of, put_by, stage_by, template_by};
 
+use crate::plans::{ask_for_canary, ask_for_grant, ask_for_key, ask_for_plan};
 use crate::routes::Route;
 use api_model::{Api, ApiCause, ApiFault};
 use book_rules::Command;
@@ -13,10 +14,10 @@ use record_fields::{encode, encode_field, fields_in, pairs_in, small_number, tex
 use std::alloc::Global;
 
 /// A command, or why the body has none.
-type Asked = Result<Command, Text>;
+pub(crate) type Asked = Result<Command, Text>;
 
 #[tactic(auto, unfolding(crate::specs::Asked::no_record))]
-fn no_record(alloc: Global) -> Result<Text, Memory>
+pub(crate) fn no_record(alloc: Global) -> Result<Text, Memory>
     ensures { IfOk result (λ why. why ≡ no_record_of) }
 {
     Ok(Text::of(String::from_str(alloc, "BadRecord")?))
@@ -129,6 +130,13 @@ pub fn ask_for(alloc: Global, route: Route, body: &[u8]) -> Result<Result<Comman
             let fields = fields_in(alloc, body)?;
             put_stage(alloc, api, stage, fields)
         }
+        Route::PutCanary { api, stage } => ask_for_canary(alloc, api, stage, body),
+        Route::Promote { api, stage } => Ok(Ok(Command::PromoteCanary { api, stage })),
+        Route::PutKey { key } => ask_for_key(alloc, key, body),
+        Route::PutPlan { plan } => ask_for_plan(alloc, plan, body),
+        Route::JoinKey { plan, key } => Ok(Ok(Command::JoinKey { plan, key })),
+        Route::Grant { plan, key } => ask_for_grant(alloc, plan, key, body),
+        Route::Usage { plan, key } => Ok(Ok(Command::Usage { plan, key })),
         Route::Shutdown => Ok(Ok(Command::Shutdown)),
     }
 }

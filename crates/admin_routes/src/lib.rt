@@ -17,11 +17,21 @@
 //! | `PUT /_admin/apis/{api}/text` | a template | PutApi |
 //! | `POST /_admin/apis/{api}/deployments` | | Deploy |
 //! | `PUT /_admin/apis/{api}/stages/{stage}` | `DEPLOYMENT`, and variables as `name=value`, parted by one space | PutStage |
+//! | `PUT /_admin/apis/{api}/stages/{stage}/canary` | `DEPLOYMENT SHARE`, and variables | PutCanary |
+//! | `POST /_admin/apis/{api}/stages/{stage}/promote` | | PromoteCanary |
+//! | `PUT /_admin/keys/{key}` | `VALUE on` or `VALUE off` | PutKey |
+//! | `PUT /_admin/plans/{plan}` | `THROTTLE QUOTA`, and stages as `API/STAGE` | PutPlan |
+//! | `PUT /_admin/plans/{plan}/keys/{key}` | | JoinKey |
+//! | `POST /_admin/plans/{plan}/keys/{key}/grant` | `AMOUNT` | Grant |
+//! | `GET /_admin/plans/{plan}/keys/{key}/usage` | | Usage |
 //! | `POST /_admin/shutdown` | | Shutdown |
+//!
+//! Fields are coded as crate `record_fields` reads them; a THROTTLE, a QUOTA and an `API/STAGE` are those of crate `plan_fields`.
 //!
 //! | Where | Answer |
 //! |---|---|
 //! | the command was carried out | 200, `{"reply":"done"}` or `{"reply":"deployed 1"}` |
+//! | a usage | 200, `{"reply":"usage period=DAY:0 allowance=7 used=1 remaining=6"}` |
 //! | the book refused it | 409, `{"reply":"refused NoApi"}` |
 //! | the change was not kept | 500, `{"reply":"store"}` |
 //! | the body has not its form, or a definition a fault | 400, `{"refused":"BadRecord"}`, `{"refused":"Missing(version) at ~"}` |
@@ -39,6 +49,7 @@ mod answers;
 mod asking;
 pub mod laws;
 mod orders;
+mod plans;
 mod routes;
 
 pub use answers::answer_reply;

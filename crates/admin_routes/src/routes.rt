@@ -23,6 +23,20 @@ pub enum Route {
     Deploy { api: Text },
     /// A stage points to a deployment, and gets its variables.
     PutStage { api: Text, stage: Text },
+    /// A stage gets a canary: a deployment, its share of the calls, and its variables.
+    PutCanary { api: Text, stage: Text },
+    /// The canary of a stage becomes the stage's own deployment.
+    Promote { api: Text, stage: Text },
+    /// A key gets its value, and is on or off.
+    PutKey { key: Text },
+    /// A plan gets its throttle, its quota and its stages.
+    PutPlan { plan: Text },
+    /// A key may call the stages of a plan.
+    JoinKey { plan: Text, key: Text },
+    /// A key of a plan may call so often more.
+    Grant { plan: Text, key: Text },
+    /// What a key of a plan may call, and has called.
+    Usage { plan: Text, key: Text },
     /// The session closes.
     Shutdown,
 }
@@ -62,6 +76,13 @@ fn route_at(verb: &str, path: AdminPath) -> Option<Route>
         AdminPath::Template { api } => ("PUT", Route::PutTemplate { api }),
         AdminPath::Deployments { api } => ("POST", Route::Deploy { api }),
         AdminPath::Stage { api, stage } => ("PUT", Route::PutStage { api, stage }),
+        AdminPath::Canary { api, stage } => ("PUT", Route::PutCanary { api, stage }),
+        AdminPath::Promote { api, stage } => ("POST", Route::Promote { api, stage }),
+        AdminPath::Key { key } => ("PUT", Route::PutKey { key }),
+        AdminPath::Plan { plan } => ("PUT", Route::PutPlan { plan }),
+        AdminPath::PlanKey { plan, key } => ("PUT", Route::JoinKey { plan, key }),
+        AdminPath::Grant { plan, key } => ("POST", Route::Grant { plan, key }),
+        AdminPath::Usage { plan, key } => ("GET", Route::Usage { plan, key }),
         AdminPath::Shutdown => ("POST", Route::Shutdown),
     };
     if verb == wanted { Some(route) } else { None }

@@ -9,7 +9,7 @@ use Rattle.keeper_core.specs.Keeping.{KeeperFacts, Planned}
 use Rattle.keeper_core.specs.declared.rows.Row.{Row}
 use Rattle.book_rules.proofs.Histories.{state_after-more, plan_after-more}
 use Rattle.book_rules.specs.Machine.{State, row_of, put_kept, outcome_of, told}
-use Rattle.book_rules.specs.History.{Base, Answers, IsAsPlanned, state_after, tables_after, plan_after, calls_of, is_changing, is_full, keeps, not_kept, reply}
+use Rattle.book_rules.specs.History.{Base, Answers, IsAsPlanned, state_after, tables_after, plan_after, calls_of, is_changing, is_full, keeps, not_kept, reply, rewrites}
 use Rattle.book_rules.specs.Times.{IsInTime}
 use Rattle.book_rules.specs.declared.events.Entry.{Entry}
 use Rattle.book_rules.specs.declared.replies.Reply.{Reply}
@@ -27,11 +27,11 @@ told_more opening history entry (Some lists) now same e =
 
 planned_more : (opening : Lists) (history : List Entry) (entry : Entry) (start before now : Option Planned)
     → before ≡ option_map (λ plan. plan_after opening plan history) start
-    → WentAsPlanned (is_changing opening history entry.event) entry.kept before now
+    → WentAsPlanned (rewrites entry.event) (is_changing opening history entry.event) entry.kept before now
     → now ≡ option_map (λ plan. plan_after opening plan (history ++ entry ∷ [])) start
-planned_more opening history entry None before now same went = subst (λ b. WentAsPlanned (is_changing opening history entry.event) entry.kept b now) same went
+planned_more opening history entry None before now same went = subst (λ b. WentAsPlanned (rewrites entry.event) (is_changing opening history entry.event) entry.kept b now) same went
 planned_more opening history entry (Some plan) before now same went =
-    (subst (λ b. WentAsPlanned (is_changing opening history entry.event) entry.kept b now) same went).1
+    (subst (λ b. WentAsPlanned (rewrites entry.event) (is_changing opening history entry.event) entry.kept b now) same went).1
     ∙ ap Some (sym (plan_after-more opening plan history entry))
 
 not_kept-more : (history : List Entry) (entry : Entry) → not_kept (history ++ entry ∷ []) ≡ not_kept history + cond entry.kept 0 1
@@ -42,7 +42,7 @@ counted_more start n one faults now h went = omega (arith, h, went)
 
 -- a keeper goes on as its history does
 pub keeps_more : (base : Base) (history : List Entry) (entry : Entry) (before now : KeeperFacts)
-    → Keeps base history before → Went (row_of (state_after base.opening history) entry.event) entry.kept before now → Keeps base (history ++ entry ∷ []) now
+    → Keeps base history before → Went (rewrites entry.event) (row_of (state_after base.opening history) entry.event) entry.kept before now → Keeps base (history ++ entry ∷ []) now
 keeps_more base history entry before now h went =
     record {
       told = told_more base.opening history entry before.tables now.tables h.told went.tables;
@@ -54,14 +54,14 @@ keeps_more base history entry before now h went =
 
 as_planned : (base : Base) (history : List Entry) (entry : Entry) (start before now : Option Planned)
     → before ≡ option_map (λ plan. plan_after base.opening plan history) start
-    → WentAsPlanned (is_changing base.opening history entry.event) entry.kept before now → IsAsPlanned base history entry start
+    → WentAsPlanned (rewrites entry.event) (is_changing base.opening history entry.event) entry.kept before now → IsAsPlanned base history entry start
 as_planned base history entry None before now same went = tt
 as_planned base history entry (Some plan) before now same went =
-    (subst (λ b. WentAsPlanned (is_changing base.opening history entry.event) entry.kept b now) same went).0
+    (subst (λ b. WentAsPlanned (rewrites entry.event) (is_changing base.opening history entry.event) entry.kept b now) same went).0
 
 -- and so the entry answers
 pub answers_at : (base : Base) (history : List Entry) (entry : Entry) (answer : Reply) (before now : KeeperFacts)
-    → Keeps base history before → Went (row_of (state_after base.opening history) entry.event) entry.kept before now
+    → Keeps base history before → Went (rewrites entry.event) (row_of (state_after base.opening history) entry.event) entry.kept before now
     → is_full base.limits history entry.event ≡ false → answer ≡ reply base.opening history entry.event entry.kept → IsInTime answer → Answers base history entry answer
 answers_at base history entry answer before now h went room is in_time =
     record {

@@ -4,6 +4,10 @@ pub mod Books
 pub mod Changes
 -- what a keeper shows after an event
 pub mod Keeps
+-- what holds of every history
+pub mod Laws
+-- the values of keys, while one is put
+pub mod Naming
 -- what stands
 pub mod Standing
 -- how a book starts over a keeper

@@ -5,8 +5,9 @@ ghost use Rattle.book_rules.specs.Good.{bad_row};
 ghost use Rattle.book_rules.specs.History.{Answers, total_size, state_after, tables_after, is_full};
 ghost use Rattle.book_rules.specs.Machine.{outcome_of, takes_memory};
 ghost use Rattle.book_rules.specs.Times.{IsInTime};
-ghost use Rattle.book_core.specs.Books.{Keeps, counts_of, is_call as is_call_of};
+ghost use Rattle.book_core.specs.Books.{Keeps, counts_of};
 
+use crate::counts::Counts;
 use crate::current::{Current, take};
 use crate::sizes::size;
 use book_rules::{Entry, Event, Limits, Reply};
@@ -34,6 +35,7 @@ pub struct Book<K: Keeper> {
     pub(crate) history: Vec<Entry>,
     pub(crate) bytes: u64,
     pub(crate) limits: Limits,
+    pub(crate) counts: Counts,
 }
 
 // Written by hand, so that a crate that lets a book go sees one call.
@@ -47,6 +49,7 @@ impl<K: Keeper + Drop> Drop for Book<K> {
             history: _,
             bytes: _,
             limits: _,
+            counts: _,
         } = self;
     }
 }
@@ -59,49 +62,7 @@ impl<K: Keeper> Model for Book<K> {
 
     ghost view = { λ b. record { keeper = b.keeper; base = record { opening = b.opening.lists; limits = b.limits; start = K.facts b.started.value }; history = b.history.items } };
 
-    ghost invariant = { λ b. IsBook (record { opening = b.opening.lists; limits = b.limits; start = K.facts b.started.value }) b.history.items (K.facts b.keeper) b.current (vec_capacity b.history) b.bytes };
-}
-
-/// How often a session was called, and how many changes it did not keep.
-#[derive(Clone, Copy, Debug, PartialEq, Eq)]
-pub struct Counts {
-    /// The Enter entries.
-    pub calls: u64,
-    /// The entries that are not kept.
-    pub not_kept: u64,
-}
-
-fn is_call(event: &Event) -> bool
-    ensures { result ≡ is_call_of event.now }
-{
-    match event {
-        Event::Enter { .. } => true,
-        Event::Admin { .. } | Event::Leave { .. } => false,
-    }
-}
-
-fn count_calls(history: &[Entry]) -> u64
-    ensures { result ≡ (counts_of history.now).calls }
-{
-    let mut calls = 0;
-    for entry in history {
-        if is_call(&entry.event) {
-            calls += 1;
-        }
-    }
-    calls
-}
-
-fn count_lost(history: &[Entry]) -> u64
-    ensures { result ≡ (counts_of history.now).not_kept }
-{
-    let mut lost = 0;
-    for entry in history {
-        if !entry.kept {
-            lost += 1;
-        }
-    }
-    lost
+    ghost invariant = { λ b. IsBook (record { opening = b.opening.lists; limits = b.limits; start = K.facts b.started.value }) b.history.items (K.facts b.keeper) b.current (vec_capacity b.history) b.bytes b.counts };
 }
 
 impl<K: Keeper> Book<K> {
@@ -147,6 +108,7 @@ impl<K: Keeper> Book<K> {
         let Ok(taken) = taken else {
             return Err(StepFault::Memory);
         };
+        self.counts = self.counts.with(&event, &taken.reply, taken.kept);
         self.bytes += size as u64;
         self.history
             .push(Entry {
@@ -180,14 +142,11 @@ impl<K: Keeper> Book<K> {
         &self.opening
     }
 
-    /// How often the session was called, and how many changes were not kept.
+    /// How often the session was called, how its calls for admission were replied, and how many changes were not kept.
     pub fn counts(&self) -> Counts
-        ensures { result ≡ counts_of self.now.history }
+        ensures { result ≡ counts_of self.now.base.opening self.now.history }
     {
-        Counts {
-            calls: count_calls(&self.history),
-            not_kept: count_lost(&self.history),
-        }
+        self.counts
     }
 
     /// Gives back the keeper, the tables and the history, without memory.
@@ -205,6 +164,7 @@ impl<K: Keeper> Book<K> {
             history,
             bytes: _,
             limits: _,
+            counts: _,
         } = self;
         (keeper, current.tables, history)
     }

@@ -10,8 +10,8 @@ ghost use Rattle.book_core.specs.Changes.{IsHeldBy, HasRoomFor, IsPlaceIn, IsPut
 use api_model::Api;
 use book_opening::{Ready, Standing};
 use book_rules::Reply;
-use gw_base::{Memory, Shared};
-use keeper_core::{Place, Row, Tables};
+use gw_base::{Memory, Seq, Shared, Text};
+use keeper_core::{JoinRow, KeyRow, Place, Row, Tables};
 
 /// What a row holds, read.
 pub enum Held {
@@ -21,6 +21,10 @@ pub enum Held {
     Deployed(Shared<Api>),
     /// A stage.
     Stands(Standing),
+    /// The stages of a plan.
+    Allows(Seq<(Text, Text)>),
+    /// The row of a join holds nothing that is read.
+    Nothing,
 }
 
 /// A row to write, what it holds, and the reply where it is kept.
@@ -37,6 +41,10 @@ pub enum Prepared {
     Says(Reply),
     /// A change.
     Writes(Change),
+    /// The row of a key, whose value no other key has.
+    Names(KeyRow),
+    /// The row of a join that stands, to be written in its place, and the reply where it is kept.
+    Rewrites(JoinRow, Reply),
 }
 
 // Written by hand, so that a function that lets a value go makes one call in place of a branch for each variant.
@@ -46,6 +54,8 @@ impl Drop for Held {
             Held::Definition(_) => {}
             Held::Deployed(_) => {}
             Held::Stands(_) => {}
+            Held::Allows(_) => {}
+            Held::Nothing => {}
         }
     }
 }
@@ -77,12 +87,16 @@ pub fn reserve_held(ready: &mut Ready, held: &Held) -> Result<(), Memory>
     ensures definitions { ready.new.definitions.items ≡ ready.old.definitions.items }
     ensures deployments { ready.new.deployments.items ≡ ready.old.deployments.items }
     ensures stages { ready.new.stages.items ≡ ready.old.stages.items }
+    ensures plans { ready.new.plans.items ≡ ready.old.plans.items }
+    ensures keys { ready.new.keys ≡ ready.old.keys }
     ensures room { OnOk result (HasRoomFor held.now ready.new) }
 {
     match held {
         Held::Definition(_) => ready.definitions.reserve(1)?,
         Held::Deployed(_) => ready.deployments.reserve(1)?,
         Held::Stands(_) => ready.stages.reserve(1)?,
+        Held::Allows(_) => ready.plans.reserve(1)?,
+        Held::Nothing => {}
     }
     Ok(())
 }
@@ -98,6 +112,8 @@ impl Held {
             Held::Definition(definition) => put_at(&mut ready.definitions, place, definition),
             Held::Deployed(definition) => put_at(&mut ready.deployments, place, definition),
             Held::Stands(stage) => put_at(&mut ready.stages, place, stage),
+            Held::Allows(stages) => put_at(&mut ready.plans, place, stages),
+            Held::Nothing => {}
         }
     }
 }

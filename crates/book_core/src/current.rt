@@ -1,20 +1,27 @@
 // What stands after the entries of a history, and how an event changes it.
-ghost use Rattle.std.specs.Prelude.{◌≡◌, ℕ, true, [], Some, None, IfOk, OnErr, is_some};
-ghost use Rattle.keeper_core.specs.Lists.{stage_row};
-ghost use Rattle.book_rules.specs.Commands.{commanded};
+ghost use Rattle.std.specs.Prelude.{◌≡◌, ℕ, true, false, [], Some, None, Bool, IfOk, IfSome, OnErr, is_some};
+ghost use Rattle.keeper_core.specs.Lists.{join_row, stage_row};
+ghost use Rattle.keeper_core.specs.declared.rows.Row.TheVariants.{Join as join_of, Key as key_of};
+ghost use Rattle.book_rules.specs.Fits.{AreFit};
+ghost use Rattle.book_rules.specs.History.{rewrites};
+ghost use Rattle.book_rules.specs.PlanCommands.{is_of_another, key_with};
 ghost use Rattle.book_rules.specs.Machine.{time_of, entered, outcome_of, row_of, told, after, put_kept, takes_memory, is_entered};
 ghost use Rattle.book_opening.specs.Ready.{AreReady};
-ghost use Rattle.book_core.specs.Changes.{IsHeldBy};
+ghost use Rattle.book_core.specs.Changes.{IsHeldBy, IsMeant, IsReadyIn, outcome_in};
 ghost use Rattle.book_core.specs.Keeps.{Went, Stays};
-ghost use Rattle.book_core.specs.Standing.{standing};
+ghost use Rattle.book_core.specs.Standing.{is_taken_to, number_to, standing, variables_to};
 
+use crate::admitting::admit;
 use crate::changes::{Change, Prepared, put, reserve_held};
-use crate::finds::{find_deployment, find_stage};
+use crate::finds::{find_deployment, find_stage, keys_ascend};
+use crate::naming::{enter_value, leave_old, leave_value, named_in};
 use crate::prepare::prepare;
-use book_opening::Ready;
+use book_opening::{Ready, Standing};
 use book_rules::{Command, Event, Reply, View};
-use gw_base::{Memory, Text};
-use keeper_core::{KeepFault, Keeper, Tables, keep};
+use call_facts::Vars;
+use gw_base::{Memory, Shared, Text};
+use keeper_core::{JoinRow, KeepFault, Keeper, KeyRow, Row, Table, Tables, keep};
+use stage_canary::takes_canary;
 use std::alloc::Global;
 
 /// The last moment of the year 2099; a later one is read as this.
@@ -37,39 +44,84 @@ pub struct Taken {
 }
 
 #[tactic(auto, unfolding(book_rules::specs::Machine::last_moment))]
-fn time(current: &Current, moment: u64) -> u64
+fn later(current: &Current, moment: u64) -> u64
     ensures { result ≡ time_of (standing current.now) moment }
 {
     moment.min(LAST_MOMENT).max(current.latest)
+}
+
+// When an event of this moment happens: then too the rows may stand.
+fn time(current: &Current, moment: u64) -> u64
+    requires fits { AreFit current.now.tables.lists current.now.latest }
+    ensures value { result ≡ time_of (standing current.now) moment }
+    ensures fits { AreFit current.now.tables.lists result }
+{
+    later(current, moment)
+}
+
+// Where and when a request comes to a stage, with its word of chance.
+#[derive(Clone, Copy)]
+struct Entering {
+    place: u64,
+    at: u64,
+    word: u64,
+}
+
+// The deployment by which a request is answered, with the variables.
+#[derive(Clone, Copy)]
+struct Chosen<'a> {
+    canary: bool,
+    deployment: u32,
+    variables: &'a Shared<Vars>,
+}
+
+// By the stage's canary, where it has one and the word is taken to it, or by the stage itself.
+fn choose(stands: &Standing, word: u64) -> Chosen
+    ensures canary { result.canary ≡ is_taken_to stands.now word }
+    ensures deployment { result.deployment ≡ number_to stands.now word }
+    ensures variables { result.variables.now ≡ variables_to stands.now word }
+{
+    match &stands.canary {
+        Some(canary) if takes_canary(canary.share, word) => Chosen {
+            canary: true,
+            deployment: canary.deployment,
+            variables: &canary.variables,
+        },
+        _ => Chosen {
+            canary: false,
+            deployment: stands.deployment,
+            variables: &stands.variables,
+        },
+    }
 }
 
 // The view of a stage, or that there is none.
 fn enter(
     tables: &Tables,
     ready: &Ready,
-    place: u64,
-    at: u64,
+    entering: Entering,
     api: &Text,
     stage: &Text,
 ) -> Result<Reply, Memory>
     requires ready { AreReady tables.now.lists ready.now }
-    ensures reply { IfOk result (λ reply. reply ≡ entered tables.now.lists place at (stage_row tables.now.lists api.now stage.now)) }
-    ensures memory { OnErr result (is_entered (entered tables.now.lists place at (stage_row tables.now.lists api.now stage.now)) ≡ true) }
+    ensures reply { IfOk result (λ reply. reply ≡ entered tables.now.lists entering.place entering.at entering.word (stage_row tables.now.lists api.now stage.now)) }
+    ensures memory { OnErr result (is_entered (entered tables.now.lists entering.place entering.at entering.word (stage_row tables.now.lists api.now stage.now)) ≡ true) }
 {
-    let Some(standing) = find_stage(tables, ready, api.as_str(), stage.as_str()) else {
+    let Some(stands) = find_stage(tables, ready, api.as_str(), stage.as_str()) else {
         return Ok(Reply::NoStage);
     };
-    let number = u64::from(standing.deployment);
+    let chosen = choose(stands, entering.word);
+    let number = u64::from(chosen.deployment);
     let Some(definition) = find_deployment(tables, ready, api.as_str(), number) else {
         return Ok(Reply::NoStage);
     };
     Ok(Reply::Entered(View {
-        place,
-        at,
-        deployment: standing.deployment,
-        canary: false,
+        place: entering.place,
+        at: entering.at,
+        deployment: chosen.deployment,
+        canary: chosen.canary,
         api: definition.share()?,
-        variables: standing.variables.share()?,
+        variables: chosen.variables.share()?,
     }))
 }
 
@@ -85,7 +137,7 @@ fn write<K: Keeper>(
     requires nothing_staged { (K.facts keeper.old).staged ≡ [] }
     ensures reply { IfOk result (λ taken. taken.reply ≡ told true change.reply taken.kept) }
     ensures lists { IfOk result (λ taken. current.new.tables.lists ≡ put_kept (Some change.row) taken.kept current.old.tables.lists) }
-    ensures keeper { IfOk result (λ taken. Went (Some change.row) taken.kept (K.facts keeper.old) (K.facts keeper.new)) }
+    ensures keeper { IfOk result (λ taken. Went false (Some change.row) taken.kept (K.facts keeper.old) (K.facts keeper.new)) }
     ensures ready { AreReady current.new.tables.lists current.new.ready }
     ensures latest { current.new.latest ≡ current.old.latest }
     ensures closing { current.new.closing ≡ current.old.closing }
@@ -108,28 +160,113 @@ fn write<K: Keeper>(
     }
 }
 
-// Carries out a command.
-fn carry_out<K: Keeper>(
+// Asks the keeper for the row of a key, and puts it and its value where it was kept. An `Err` changes nothing.
+fn name_key<K: Keeper>(
     current: &mut Current,
     keeper: &mut K,
     alloc: Global,
-    command: &Command,
+    row: KeyRow,
 ) -> Result<Taken, Memory>
     requires ready { AreReady current.old.tables.lists current.old.ready }
+    requires free { is_of_another row.key (key_with current.old.tables.lists row.value) ≡ false }
     requires nothing_staged { (K.facts keeper.old).staged ≡ [] }
-    ensures reply { IfOk result (λ taken. taken.reply ≡ told (is_some (commanded current.old.tables.lists command.now).row) (commanded current.old.tables.lists command.now).reply taken.kept) }
-    ensures lists { IfOk result (λ taken. current.new.tables.lists ≡ put_kept (commanded current.old.tables.lists command.now).row taken.kept current.old.tables.lists) }
-    ensures keeper { IfOk result (λ taken. Went (commanded current.old.tables.lists command.now).row taken.kept (K.facts keeper.old) (K.facts keeper.new)) }
+    ensures reply { IfOk result (λ taken. taken.reply ≡ told true Reply.Done taken.kept) }
+    ensures lists { IfOk result (λ taken. current.new.tables.lists ≡ put_kept (Some (key_of row)) taken.kept current.old.tables.lists) }
+    ensures keeper { IfOk result (λ taken. Went false (Some (key_of row)) taken.kept (K.facts keeper.old) (K.facts keeper.new)) }
     ensures ready { AreReady current.new.tables.lists current.new.ready }
     ensures latest { current.new.latest ≡ current.old.latest }
     ensures closing { current.new.closing ≡ current.old.closing }
     ensures err { OnErr result (current.new.tables.lists ≡ current.old.tables.lists) }
     ensures stays { OnErr result (Stays (K.facts keeper.old) (K.facts keeper.new)) }
-    ensures memory { OnErr result (takes_memory (commanded current.old.tables.lists command.now) ≡ true) }
 {
-    match prepare(&current.tables, &current.ready, alloc, command)? {
+    current.tables.reserve(Table::Keys, 1)?;
+    keys_ascend(&current.tables);
+    let row = Row::Key(row);
+    let (key, value) = named_in(&row);
+    let is_own = enter_value(&mut current.ready.keys, alloc, key, value)?;
+    match keep(keeper, alloc, &row) {
+        Ok(()) => {
+            leave_old(&current.tables, &mut current.ready.keys, key, value);
+            current.tables.put(row).unwrap();
+            Ok(Taken {
+                reply: Reply::Done,
+                kept: true,
+            })
+        }
+        Err(KeepFault::Failed) => {
+            leave_value(&mut current.ready.keys, value, is_own);
+            Ok(Taken {
+                reply: Reply::Store,
+                kept: false,
+            })
+        }
+        Err(KeepFault::Memory) => {
+            leave_value(&mut current.ready.keys, value, is_own);
+            Err(Memory)
+        }
+    }
+}
+
+// Asks the keeper for a join in its place, and writes it where it was kept. An `Err` changes nothing.
+fn rewrite<K: Keeper>(
+    current: &mut Current,
+    keeper: &mut K,
+    alloc: Global,
+    row: &JoinRow,
+    reply: Reply,
+) -> Result<Taken, Memory>
+    requires ready { AreReady current.old.tables.lists current.old.ready }
+    requires stands { is_some (join_row current.old.tables.lists row.now.plan row.now.key) ≡ true }
+    requires told { IfSome (K.facts keeper.old).tables (λ lists. lists ≡ current.old.tables.lists) }
+    requires nothing_staged { (K.facts keeper.old).staged ≡ [] }
+    ensures reply { IfOk result (λ taken. taken.reply ≡ told true reply taken.kept) }
+    ensures lists { IfOk result (λ taken. current.new.tables.lists ≡ put_kept (Some (join_of row.now)) taken.kept current.old.tables.lists) }
+    ensures keeper { IfOk result (λ taken. Went true (Some (join_of row.now)) taken.kept (K.facts keeper.old) (K.facts keeper.new)) }
+    ensures ready { AreReady current.new.tables.lists current.new.ready }
+    ensures latest { current.new.latest ≡ current.old.latest }
+    ensures closing { current.new.closing ≡ current.old.closing }
+    ensures err { OnErr result (current.new.tables.lists ≡ current.old.tables.lists) }
+    ensures stays { OnErr result (Stays (K.facts keeper.old) (K.facts keeper.new)) }
+{
+    match keeper.rewrite(alloc, row) {
+        Ok(()) => {
+            current.tables.rewrite(row);
+            Ok(Taken { reply, kept: true })
+        }
+        Err(KeepFault::Failed) => Ok(Taken {
+            reply: Reply::Store,
+            kept: false,
+        }),
+        Err(KeepFault::Memory) => Err(Memory),
+    }
+}
+
+// Carries out what was prepared.
+fn carry_out<K: Keeper>(
+    current: &mut Current,
+    keeper: &mut K,
+    alloc: Global,
+    prepared: Prepared,
+) -> Result<Taken, Memory>
+    requires prepared { IsReadyIn current.old.tables.lists prepared }
+    requires ready { AreReady current.old.tables.lists current.old.ready }
+    requires told { IfSome (K.facts keeper.old).tables (λ lists. lists ≡ current.old.tables.lists) }
+    requires nothing_staged { (K.facts keeper.old).staged ≡ [] }
+    ensures reply { IfOk result (λ taken. taken.reply ≡ told (is_some (outcome_in prepared).row) (outcome_in prepared).reply taken.kept) }
+    ensures lists { IfOk result (λ taken. current.new.tables.lists ≡ put_kept (outcome_in prepared).row taken.kept current.old.tables.lists) }
+    ensures keeper { IfOk result (λ taken. (rewriting : Bool) → IsMeant rewriting prepared → Went rewriting (outcome_in prepared).row taken.kept (K.facts keeper.old) (K.facts keeper.new)) }
+    ensures ready { AreReady current.new.tables.lists current.new.ready }
+    ensures latest { current.new.latest ≡ current.old.latest }
+    ensures closing { current.new.closing ≡ current.old.closing }
+    ensures err { OnErr result (current.new.tables.lists ≡ current.old.tables.lists) }
+    ensures stays { OnErr result (Stays (K.facts keeper.old) (K.facts keeper.new)) }
+    ensures memory { OnErr result (takes_memory (outcome_in prepared) ≡ true) }
+{
+    match prepared {
         Prepared::Says(reply) => Ok(Taken { reply, kept: true }),
         Prepared::Writes(change) => write(current, keeper, alloc, change),
+        Prepared::Names(row) => name_key(current, keeper, alloc, row),
+        Prepared::Rewrites(row, reply) => rewrite(current, keeper, alloc, &row, reply),
     }
 }
 
@@ -142,10 +279,12 @@ pub fn take<K: Keeper>(
     event: &Event,
 ) -> Result<Taken, Memory>
     requires ready { AreReady current.old.tables.lists current.old.ready }
+    requires fits { AreFit current.old.tables.lists current.old.latest }
+    requires told { IfSome (K.facts keeper.old).tables (λ lists. lists ≡ current.old.tables.lists) }
     requires nothing_staged { (K.facts keeper.old).staged ≡ [] }
     ensures reply { IfOk result (λ taken. taken.reply ≡ told (is_some (row_of (standing current.old) event.now)) (outcome_of (standing current.old) place event.now).reply taken.kept) }
     ensures stands { (seat : ℕ) → IfOk result (λ taken. standing current.new ≡ after (standing current.old) (record { seat = seat; event = event.now; kept = taken.kept })) }
-    ensures keeper { IfOk result (λ taken. Went (row_of (standing current.old) event.now) taken.kept (K.facts keeper.old) (K.facts keeper.new)) }
+    ensures keeper { IfOk result (λ taken. Went (rewrites event.now) (row_of (standing current.old) event.now) taken.kept (K.facts keeper.old) (K.facts keeper.new)) }
     ensures ready { AreReady current.new.tables.lists current.new.ready }
     ensures err { OnErr result (standing current.new ≡ standing current.old) }
     ensures stays { OnErr result (Stays (K.facts keeper.old) (K.facts keeper.new)) }
@@ -154,18 +293,44 @@ pub fn take<K: Keeper>(
     match event {
         Event::Enter {
             moment,
+            word,
             api,
             stage,
-            ..
         } => {
             let at = time(current, *moment);
-            let reply = enter(&current.tables, &current.ready, place, at, api, stage)?;
+            let entering = Entering {
+                place,
+                at,
+                word: *word,
+            };
+            let reply = enter(&current.tables, &current.ready, entering, api, stage)?;
             current.latest = at;
             Ok(Taken { reply, kept: true })
         }
+        Event::Admit {
+            moment,
+            api,
+            stage,
+            value,
+        } => {
+            let at = time(current, *moment);
+            let stage = (api.as_str(), stage.as_str());
+            let prepared = admit(
+                &current.tables,
+                &current.ready,
+                alloc,
+                at,
+                stage,
+                value.as_str(),
+            )?;
+            let taken = carry_out(current, keeper, alloc, prepared)?;
+            current.latest = at;
+            Ok(taken)
+        }
         Event::Admin { moment, command } => {
             let at = time(current, *moment);
-            let taken = carry_out(current, keeper, alloc, command)?;
+            let prepared = prepare(&current.tables, &current.ready, alloc, at, command)?;
+            let taken = carry_out(current, keeper, alloc, prepared)?;
             current.latest = at;
             if let Command::Shutdown = command {
                 current.closing = true;

@@ -27,18 +27,25 @@
 //! Left out: want of memory has no cause, but it comes only where a reply shares something or a change is written.
 #![tactic(auto)]
 
+mod admitting;
 mod base;
 mod book;
 mod changes;
+mod counts;
 mod current;
 mod finds;
 pub mod laws;
 mod machine;
 mod names;
+mod naming;
+mod plan_changes;
+mod plans;
 mod prepare;
 mod sizes;
+mod stage_changes;
 mod start;
 
 pub use base::Base;
-pub use book::{Book, Counts, StepFault};
+pub use book::{Book, StepFault};
+pub use counts::Counts;
 pub use start::StartFault;

@@ -1,13 +1,13 @@
 // What the texts of an event sum up to.
 ghost use Rattle.std.specs.Prelude.{◌≡◌};
-ghost use Rattle.book_rules.specs.History.{capped, size as size_of_event, command_size as command_size_of, variables_size as variables_size_of};
+ghost use Rattle.book_rules.specs.History.{capped, size as size_of_event, command_size as command_size_of, pairs_size as pairs_size_of};
 
 use book_rules::{Command, Event};
 use gw_base::Text;
 
-// The bytes of names and values.
-fn variables_size(pairs: &[(Text, Text)]) -> u128
-    ensures { result ≡ capped (variables_size_of pairs.now) }
+// The bytes of both texts of each pair.
+fn pairs_size(pairs: &[(Text, Text)]) -> u128
+    ensures { result ≡ capped (pairs_size_of pairs.now) }
 {
     let mut sum: u128 = 0;
     for pair in pairs {
@@ -30,10 +30,28 @@ fn command_size(command: &Command) -> u128
             variables,
             ..
         } => {
-            variables_size(variables.value().pairs.as_slice()).saturating_add(
+            pairs_size(variables.value().pairs.as_slice()).saturating_add(
                 api.len() as u128 + stage.len() as u128,
             )
         }
+        Command::PutCanary {
+            api,
+            stage,
+            variables,
+            ..
+        } => {
+            pairs_size(variables.value().pairs.as_slice()).saturating_add(
+                api.len() as u128 + stage.len() as u128,
+            )
+        }
+        Command::PromoteCanary { api, stage } => api.len() as u128 + stage.len() as u128,
+        Command::PutKey { key, value, .. } => key.len() as u128 + value.len() as u128,
+        Command::PutPlan { plan, stages, .. } => {
+            pairs_size(stages.as_slice()).saturating_add(plan.len() as u128)
+        }
+        Command::JoinKey { plan, key }
+        | Command::Grant { plan, key, .. }
+        | Command::Usage { plan, key } => plan.len() as u128 + key.len() as u128,
         Command::Shutdown => 0,
     }
 }
@@ -44,6 +62,12 @@ pub fn size(event: &Event) -> u128
 {
     match event {
         Event::Enter { api, stage, .. } => api.len() as u128 + stage.len() as u128,
+        Event::Admit {
+            api,
+            stage,
+            value,
+            ..
+        } => api.len() as u128 + stage.len() as u128 + value.len() as u128,
         Event::Admin { command, .. } => command_size(command),
         Event::Leave { .. } => 0,
     }

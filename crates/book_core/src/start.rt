@@ -6,6 +6,7 @@ ghost use Rattle.book_core.specs.Standing.{standing};
 ghost use Rattle.book_core.specs.Starts.{HasStarted, StartFails, FailsAt, is_failed_start, fault_of as fault_of_load};
 
 use crate::book::Book;
+use crate::counts::Counts;
 use crate::current::Current;
 use book_opening::{OpenFault, Ready, open};
 use book_rules::{Entry, Limits};
@@ -87,6 +88,7 @@ impl<K: Keeper> Book<K> {
                     history,
                     bytes: 0,
                     limits,
+                    counts: Counts::none(),
                 })
             }
             Err(Memory) => Err((keeper, StartFault::Memory)),

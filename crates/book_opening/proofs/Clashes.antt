@@ -7,7 +7,8 @@ use Rattle.call_facts.specs.Pairs.{Pairs}
 use Rattle.keeper_core.specs.Lists.{Lists, plan_row}
 use Rattle.keeper_core.specs.declared.rows.JoinRow.{JoinRow}
 use Rattle.keeper_core.specs.declared.rows.PlanRow.{PlanRow}
-use Rattle.book_rules.specs.Good.{share_a_stage, stages_of, joined_already}
+use Rattle.book_rules.specs.Good.{stages_by, joined_already}
+use Rattle.book_rules.specs.PlanStages.{share_a_stage}
 use Rattle.book_opening.proofs.Values.{list_any-reverse}
 
 -- with no stages none is shared
@@ -17,7 +18,7 @@ shares_none (stage ∷ stages) = shares_none stages
 
 -- another row is of the same key, and its plan shares a stage
 abbrev pub clash : Lists → JoinRow → JoinRow → Bool
-clash lists row other = bytes_eq other.key row.key && share_a_stage (stages_of (plan_row lists row.plan)) (stages_of (plan_row lists other.plan))
+clash lists row other = bytes_eq other.key row.key && share_a_stage (stages_by (plan_row lists row.plan)) (stages_by (plan_row lists other.plan))
 
 -- one row more that does not clash
 pub joined_more : (lists : Lists) (row : JoinRow) (rows : List JoinRow) (n : ℕ) (other : JoinRow) → n < length rows → other ≡ get_or rows n other → clash lists row other ≡ false
@@ -42,5 +43,5 @@ and_false true = refl
 and_false false = refl
 
 -- a plan that does not stand shares none
-pub no_clash : (same : Bool) (stages : Pairs) (plan : Option PlanRow) → None ≡ plan → false ≡ (same && share_a_stage stages (stages_of plan))
-no_clash same stages plan none = and_false same ∙ ap (λ b. same && b) (shares_none stages) ∙ ap (λ p. same && share_a_stage stages (stages_of p)) none
+pub no_clash : (same : Bool) (stages : Pairs) (plan : Option PlanRow) → None ≡ plan → false ≡ (same && share_a_stage stages (stages_by plan))
+no_clash same stages plan none = and_false same ∙ ap (λ b. same && b) (shares_none stages) ∙ ap (λ p. same && share_a_stage stages (stages_by p)) none

@@ -10,7 +10,7 @@ use Rattle.record_fields.specs.Coding.{is_utf8}
 use Rattle.api_model.specs.Definition.{Definition}
 use Rattle.api_parts.specs.declared.fault.ApiFault.{ApiFault}
 use Rattle.api_parts.specs.declared.fault.ApiCause.TheVariants.{Memory}
-use Rattle.book_rules.specs.Good.{stage_in, all_stages, before_each_stage}
+use Rattle.book_rules.specs.PlanStages.{stage_in, all_stages, before_each_stage}
 use Rattle.book_opening.specs.Ready.{if_taken}
 
 read_ok : {P : Type 0} (definition : Definition) (stated : Result P ApiFault) (parts : P) (api : Option Definition) (x : Definition) → x ≡ definition → stated ≡ Ok parts → api ≡ Some x

@@ -48,7 +48,7 @@ pub(crate) fn read_definition(
 }
 
 // The definition of a row, where the row is taken.
-#[tactic(auto, unfolding(book_rules::specs::Commands::most_apis))]
+#[tactic(auto, unfolding(book_rules::specs::Limits::most_apis))]
 fn read_api(alloc: Global, before: &[ApiRow], row: &ApiRow) -> Result<Option<Shared<Api>>, Memory>
     ensures { IfOk result (λ api. api ≡ if_taken (takes_api (reverse before.now) row.now) (definition_of row.now)) }
 {

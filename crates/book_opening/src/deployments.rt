@@ -16,7 +16,7 @@ use std::alloc::Global;
 const MOST_DEPLOYMENTS: u64 = 1024;
 
 /// Whether a deployment of a stage stands.
-#[tactic(auto, unfolding(book_rules::specs::Commands::most_deployments))]
+#[tactic(auto, unfolding(book_rules::specs::Limits::most_deployments))]
 pub(crate) fn is_deployed(tables: &Tables, api: &str, number: u64) -> bool
     ensures value { result ≡ is_deployed_of tables.now.lists api.now number }
     ensures small { result ≡ true → number ≤ 1024 }
@@ -36,7 +36,7 @@ fn is_next(before: &[DeploymentRow], row: &DeploymentRow) -> bool
 }
 
 // The definition of a row, where the row is taken.
-#[tactic(auto, unfolding(book_rules::specs::Commands::most_deployments))]
+#[tactic(auto, unfolding(book_rules::specs::Limits::most_deployments))]
 fn read_deployment(
     alloc: Global,
     tables: &Tables,

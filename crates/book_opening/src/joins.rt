@@ -2,16 +2,17 @@
 ghost use Rattle.std.specs.Prelude.{◌≡◌, ◌<◌, ◌&&◌, reverse, None, Some, IfOk, OnOk, IfErr};
 ghost use Rattle.std.specs.Str.{bytes_eq};
 ghost use Rattle.keeper_core.specs.Lists.{plan_row};
-ghost use Rattle.book_rules.specs.Good.{refused_by, kind_of as kind_of_number, takes_period as takes_period_of, takes_level as takes_level_of, stages_of as stages_of_plan, share_a_stage as share_a_stage_of, joined_already as joined_already_of, takes_join as takes_join_of};
+ghost use Rattle.book_rules.specs.Good.{refused_by, takes_period as takes_period_of, takes_level as takes_level_of, stages_by as stages_by_plan, joined_already as joined_already_of, takes_join as takes_join_of};
+ghost use Rattle.book_rules.specs.PlanStages.{share_a_stage as share_a_stage_of};
+ghost use Rattle.usage_plans.specs.Rows.{kind_in as kind_of_number};
 ghost use Rattle.book_opening.specs.Faults.{IsFirstIn};
 
 use crate::fault::OpenFault;
-use crate::plan_stages::{read_stages, share_a_stage};
-use crate::plans::MOST_UNITS;
+use crate::plan_stages::{share_a_stage, stages_of};
 use gw_base::{Memory, Text};
 use keeper_core::{JoinRow, PlanRow, Table, Tables};
 use std::alloc::Global;
-use usage_meter::{Period, PeriodKind, YEAR_2100};
+use usage_plans::{MOST_UNITS, Period, PeriodKind, YEAR_2100};
 
 /// The most joins.
 const MOST_JOINS: usize = 20_000;
@@ -31,7 +32,6 @@ fn kind_of(number: u64) -> Option<PeriodKind>
 }
 
 // Whether what a row says of its period is taken.
-#[tactic(auto, unfolding(book_rules::specs::Good::most_units))]
 fn takes_period(row: &JoinRow) -> bool
     requires { row.now.at < 4102444800000 }
     ensures { result ≡ takes_period_of row.now (kind_of_number row.now.pkind) }
@@ -60,16 +60,6 @@ fn takes_level(row: &JoinRow, plan: &PlanRow) -> bool
         && (row.tversion != plan.tversion || row.level <= plan.burst.saturating_mul(PARTS))
 }
 
-// The stages of a plan.
-fn stages_of(alloc: Global, plan: &PlanRow) -> Result<Vec<(Text, Text)>, Memory>
-    ensures { IfOk result (λ stages. stages.items ≡ stages_of_plan (Some plan.now)) }
-{
-    match read_stages(alloc, plan.stages.as_str())? {
-        Some(stages) => Ok(stages),
-        None => Ok(Vec::new(alloc)),
-    }
-}
-
 // Whether another row is of the same key, and its plan has one of the stages.
 fn clashes(
     alloc: Global,
@@ -78,7 +68,7 @@ fn clashes(
     row: &JoinRow,
     other: &JoinRow,
 ) -> Result<bool, Memory>
-    ensures { IfOk result (λ clash. clash ≡ (bytes_eq other.now.key row.now.key && share_a_stage_of stages.now (stages_of_plan (plan_row tables.now.lists other.now.plan)))) }
+    ensures { IfOk result (λ clash. clash ≡ (bytes_eq other.now.key row.now.key && share_a_stage_of stages.now (stages_by_plan (plan_row tables.now.lists other.now.plan)))) }
 {
     if other.key.as_str() != row.key.as_str() {
         return Ok(false);
@@ -110,7 +100,7 @@ fn joined_already(
     Ok(false)
 }
 
-#[tactic(auto, unfolding(book_rules::specs::Good::most_joins))]
+#[tactic(auto, unfolding(book_rules::specs::Limits::most_joins))]
 fn takes_join(
     alloc: Global,
     tables: &Tables,

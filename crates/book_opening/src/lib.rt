@@ -2,7 +2,7 @@
 //!
 //! ```text
 //! match open(alloc, &tables) {
-//!     Ok(ready) => ready.definitions,               // of the APIs; beside them the deployments' and the stages' variables
+//!     Ok(ready) => ready.definitions,               // of the APIs; beside them the deployments', the stages', the plans', and the keys by their values
 //!     Err(OpenFault::BadRow(table, row)) => ..,     // the first row that is refused
 //!     Err(OpenFault::Memory) => ..,
 //! }
@@ -40,5 +40,8 @@ mod ready;
 mod stages;
 
 pub use fault::OpenFault;
+pub use keys::is_key_value;
 pub use opening::open;
-pub use ready::{Ready, Standing};
+pub use plan_stages::{is_among, share_a_stage, stages_of};
+pub use ready::{Canary, Ready, Standing};
+pub use stages::read_standing;

@@ -8,9 +8,9 @@ use crate::definitions::open_apis;
 use crate::deployments::open_deployments;
 use crate::fault::OpenFault;
 use crate::joins::test_joins;
-use crate::keys::test_keys;
+use crate::keys::open_keys;
 use crate::metas::test_metas;
-use crate::plans::test_plans;
+use crate::plans::{read_plans, test_plans};
 use crate::ready::Ready;
 use crate::stages::open_stages;
 use keeper_core::Tables;
@@ -28,12 +28,14 @@ pub fn open(alloc: Global, tables: &Tables) -> Result<Ready, OpenFault>
     let definitions = open_apis(alloc, tables.apis())?;
     let deployments = open_deployments(alloc, tables)?;
     let stages = open_stages(alloc, tables)?;
-    test_keys(alloc, tables.keys())?;
+    let keys = open_keys(alloc, tables.keys())?;
     test_plans(alloc, tables)?;
     test_joins(alloc, tables)?;
     Ok(Ready {
         definitions,
         deployments,
         stages,
+        keys,
+        plans: read_plans(alloc, tables.plans())?,
     })
 }

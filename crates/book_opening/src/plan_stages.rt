@@ -4,9 +4,10 @@ ghost use Rattle.std.specs.Borrow.{Bor};
 ghost use Rattle.std.specs.Option.{option_map};
 ghost use Rattle.std.specs.List.{list_any};
 ghost use Rattle.record_fields.specs.Coding.{parts_of};
-ghost use Rattle.book_rules.specs.Good.{stage_in, all_stages, stages_in, same_stage as same_stage_of, stages_differ as stages_differ_of, share_a_stage as share_a_stage_of};
+ghost use Rattle.book_rules.specs.PlanStages.{stage_in, all_stages, stages_in, stages_of as stages_of_plan, same_stage as same_stage_of, stages_differ as stages_differ_of, share_a_stage as share_a_stage_of};
 
 use gw_base::{Memory, Text, is_name};
+use keeper_core::PlanRow;
 use std::alloc::{AllocError, Global};
 
 fn text_of(alloc: Global, text: &str) -> Result<Text, Memory>
@@ -55,7 +56,7 @@ fn read_all(alloc: Global, fields: &[&str]) -> Result<Option<Vec<(Text, Text)>>,
 }
 
 /// The stages of a plan's column, where it has its form: fields API/STAGE, both of which are names, parted by one space.
-#[tactic(auto, unfolding(book_rules::specs::Good::stages_in))]
+#[tactic(auto, unfolding(book_rules::specs::PlanStages::stages_in))]
 pub(crate) fn read_stages(alloc: Global, column: &str) -> Result<Option<Vec<(Text, Text)>>, Memory>
     ensures { IfOk result (λ stages. option_map (λ v. v.items) stages ≡ stages_in column.now) }
 {
@@ -66,7 +67,18 @@ pub(crate) fn read_stages(alloc: Global, column: &str) -> Result<Option<Vec<(Tex
     read_all(alloc, &parts)
 }
 
-fn is_among(stages: &[(Text, Text)], stage: &(Text, Text)) -> bool
+/// The stages of a plan's row; none where its column has not their form.
+pub fn stages_of(alloc: Global, plan: &PlanRow) -> Result<Vec<(Text, Text)>, Memory>
+    ensures { IfOk result (λ stages. stages.items ≡ stages_of_plan plan.now) }
+{
+    match read_stages(alloc, plan.stages.as_str())? {
+        Some(stages) => Ok(stages),
+        None => Ok(Vec::new(alloc)),
+    }
+}
+
+/// Whether the stage is one of these.
+pub fn is_among(stages: &[(Text, Text)], stage: &(Text, Text)) -> bool
     ensures { result ≡ list_any (same_stage_of stage.now) stages.now }
 {
     stages.iter().any(|other| stage.0.as_str() == other.0.as_str()
@@ -74,7 +86,7 @@ fn is_among(stages: &[(Text, Text)], stage: &(Text, Text)) -> bool
 }
 
 /// Whether no stage stands twice.
-pub(crate) fn stages_differ(stages: &[(Text, Text)]) -> bool
+pub fn stages_differ(stages: &[(Text, Text)]) -> bool
     ensures { result ≡ stages_differ_of stages.now }
 {
     for (i, stage) in stages.iter().enumerate() {
@@ -86,7 +98,7 @@ pub(crate) fn stages_differ(stages: &[(Text, Text)]) -> bool
 }
 
 /// Whether a stage stands in both lists.
-pub(crate) fn share_a_stage(stages: &[(Text, Text)], others: &[(Text, Text)]) -> bool
+pub fn share_a_stage(stages: &[(Text, Text)], others: &[(Text, Text)]) -> bool
     ensures { result ≡ share_a_stage_of stages.now others.now }
 {
     stages.iter().any(|stage| is_among(others, stage))

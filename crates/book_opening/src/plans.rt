@@ -1,15 +1,19 @@
 // The table `plans`.
-ghost use Rattle.std.specs.Prelude.{◌≡◌, ◌&&◌, nat_le, is_some, reverse, None, Some, IfOk, OnOk, IfErr};
+ghost use Rattle.std.specs.Prelude.{◌≡◌, ◌&&◌, nat_le, is_some, map, reverse, None, Some, IfOk, OnOk, IfErr};
 ghost use Rattle.std.specs.List.{list_all};
 ghost use Rattle.keeper_core.specs.Lists.{stage_row};
-ghost use Rattle.book_rules.specs.Good.{refused_by, most_versions, most_units, takes_throttle as takes_throttle_of, are_plan_stages as are_plan_stages_of, takes_plan as takes_plan_of};
+ghost use Rattle.book_rules.specs.Good.{refused_by, takes_throttle as takes_throttle_of, are_plan_stages as are_plan_stages_of, takes_plan as takes_plan_of};
+ghost use Rattle.book_rules.specs.Limits.{most_versions};
+ghost use Rattle.usage_plans.specs.declared.terms.TheConstants.{MOST_UNITS as most_units};
+ghost use Rattle.book_rules.specs.PlanStages.{stages_of as stages_of_plan};
 ghost use Rattle.book_opening.specs.Faults.{IsFirstIn};
 
 use crate::fault::OpenFault;
-use crate::plan_stages::{read_stages, stages_differ};
-use gw_base::{Memory, Text, is_name};
+use crate::plan_stages::{read_stages, stages_differ, stages_of};
+use gw_base::{Memory, Seq, Text, is_name};
 use keeper_core::{PlanRow, Table, Tables};
 use std::alloc::Global;
+use usage_plans::MOST_UNITS;
 
 /// The most plans, and the most stages of one.
 const MOST_PLANS: usize = 256;
@@ -22,14 +26,11 @@ const MOST_PER_SECOND: u64 = 1_000_000;
 /// The greatest version of a throttle.
 const MOST_VERSIONS: u64 = 9_223_372_036_854_775_807;
 
-/// The most calls of a period.
-pub(crate) const MOST_UNITS: u64 = 1_000_000_000_000;
-
 /// The number of the last kind of period.
 const LAST_KIND: u64 = 3;
 
 // No throttle, or a rate and a burst.
-#[tactic(auto, unfolding(book_rules::specs::Good::most_per_second))]
+#[tactic(auto, unfolding(book_rules::specs::Limits::most_per_second))]
 fn takes_throttle(row: &PlanRow) -> bool
     ensures { result ≡ takes_throttle_of row.now }
 {
@@ -40,7 +41,7 @@ fn takes_throttle(row: &PlanRow) -> bool
             && row.burst <= MOST_PER_SECOND
 }
 
-#[tactic(auto, unfolding(book_rules::specs::Good::most_versions, book_rules::specs::Good::most_units))]
+#[tactic(auto, unfolding(book_rules::specs::Limits::most_versions))]
 fn takes_quota(row: &PlanRow) -> bool
     ensures { result ≡ (nat_le row.now.tversion most_versions && nat_le row.now.qkind 3 && nat_le row.now.qlimit most_units && nat_le row.now.qoffset row.now.qlimit) }
 {
@@ -57,14 +58,14 @@ fn stand(tables: &Tables, stages: &[(Text, Text)]) -> bool
 }
 
 // Whether a plan may have the stages: they differ, and stand.
-#[tactic(auto, unfolding(book_rules::specs::Good::most_plan_stages))]
+#[tactic(auto, unfolding(book_rules::specs::Limits::most_plan_stages))]
 fn are_plan_stages(tables: &Tables, stages: &[(Text, Text)]) -> bool
     ensures { result ≡ are_plan_stages_of tables.now.lists (Some stages.now) }
 {
     stages.len() <= MOST_STAGES && stages_differ(stages) && stand(tables, stages)
 }
 
-#[tactic(auto, unfolding(book_rules::specs::Good::most_plans))]
+#[tactic(auto, unfolding(book_rules::specs::Limits::most_plans))]
 fn takes_plan(
     alloc: Global,
     tables: &Tables,
@@ -98,4 +99,15 @@ pub(crate) fn test_plans(alloc: Global, tables: &Tables) -> Result<(), OpenFault
         }
     }
     Ok(())
+}
+
+/// The stages of each plan.
+pub(crate) fn read_plans(alloc: Global, rows: &[PlanRow]) -> Result<Vec<Seq<(Text, Text)>>, Memory>
+    ensures { IfOk result (λ plans. plans.items ≡ map stages_of_plan rows.now) }
+{
+    let mut plans = Vec::new(alloc);
+    for row in rows {
+        plans.push(Seq::of(stages_of(alloc, row)?))?;
+    }
+    Ok(plans)
 }

@@ -4,19 +4,20 @@ ghost use Rattle.std.specs.Option.{option_map};
 ghost use Rattle.std.specs.List.{list_any};
 ghost use Rattle.std.specs.Str.{bytes_eq};
 ghost use Rattle.record_fields.specs.Columns.{column_pairs};
-ghost use Rattle.book_rules.specs.Good.{refused_by, names_differ as names_differ_of, are_stage_variables as are_stage_variables_of, is_vars_column, takes_canary as takes_canary_of, takes_stage};
+ghost use Rattle.book_rules.specs.Good.{refused_by, names_differ as names_differ_of, are_stage_variables as are_stage_variables_of, takes_canary as takes_canary_of, is_vars_column as is_vars_column_of, takes_stage};
 ghost use Rattle.book_rules.specs.Names.{is_variable as is_variable_of, are_variables as are_variables_of};
 ghost use Rattle.book_rules.specs.Stored.{variables_in};
 ghost use Rattle.book_opening.specs.Faults.{IsFirstIn};
-ghost use Rattle.book_opening.specs.Ready.{if_taken, standing_of};
+ghost use Rattle.book_opening.specs.Ready.{canary_of as canary_of_row, if_taken, standing_of};
 
 use crate::deployments::is_deployed;
 use crate::fault::OpenFault;
-use crate::ready::Standing;
+use crate::ready::{Canary, Standing};
 use call_facts::Vars;
 use gw_base::{Memory, Seq, Shared, Text, is_name};
 use keeper_core::{StageRow, Table, Tables};
 use record_fields::read_column;
+use stage_canary::{WHOLE_SHARE, merged};
 use std::alloc::Global;
 
 /// The most stages, and the most variables of one.
@@ -26,9 +27,6 @@ const MOST_VARIABLES: usize = 64;
 
 /// The most bytes of a variable's value.
 const MOST_VALUE: usize = 2048;
-
-/// The whole of a canary's share.
-const WHOLE_SHARE: u64 = 10_000;
 
 fn is_variable(pair: &(Text, Text)) -> bool
     ensures { result ≡ is_variable_of pair.now }
@@ -61,42 +59,100 @@ fn names_differ(pairs: &[(Text, Text)]) -> bool
 }
 
 // Whether the pairs are variables that a stage may have.
-#[tactic(auto, unfolding(book_rules::specs::Commands::most_variables))]
+#[tactic(auto, unfolding(book_rules::specs::Limits::most_variables))]
 fn are_stage_variables(pairs: &[(Text, Text)]) -> bool
     ensures { result ≡ are_stage_variables_of (Some pairs.now) }
 {
     pairs.len() <= MOST_VARIABLES && are_variables(pairs) && names_differ(pairs)
 }
 
-// The variables of a column, where a stage may have them.
-fn read_variables(alloc: Global, column: &str) -> Result<Option<Vec<(Text, Text)>>, Memory>
-    ensures { IfOk result (λ pairs. option_map (λ v. v.items) pairs ≡ (if is_vars_column column.now then column_pairs column.now else None)) }
+// Whether a column has variables that a stage may have.
+fn is_vars_column(alloc: Global, column: &str) -> Result<bool, Memory>
+    ensures { IfOk result (λ taken. taken ≡ is_vars_column_of column.now) }
 {
-    let Some(pairs) = read_column(alloc, column)? else {
+    match read_column(alloc, column)? {
+        Some(pairs) => Ok(are_stage_variables(&pairs)),
+        None => Ok(false),
+    }
+}
+
+// The number of a stage's canary, where it is taken; 0 where there is none, of which nothing is said then.
+fn read_canary(alloc: Global, tables: &Tables, row: &StageRow) -> Result<Option<u32>, Memory>
+    ensures { IfOk result (λ number. number ≡ if_taken (takes_canary_of tables.now.lists row.now) row.now.canary) }
+{
+    if row.canary == 0 {
+        let is_said = row.share != 0 || !row.canary_vars.is_empty();
+        return Ok(if is_said { None } else { Some(0) });
+    }
+    if !is_deployed(tables, row.api.as_str(), row.canary) || row.share > WHOLE_SHARE {
         return Ok(None);
-    };
-    if are_stage_variables(&pairs) {
-        Ok(Some(pairs))
+    }
+    if is_vars_column(alloc, row.canary_vars.as_str())? {
+        Ok(Some(row.canary as u32))
     } else {
         Ok(None)
     }
 }
 
-// Whether a stage's canary is taken. Where there is none, nothing is said of one.
-fn takes_canary(alloc: Global, tables: &Tables, row: &StageRow) -> Result<bool, Memory>
-    ensures { IfOk result (λ taken. taken ≡ takes_canary_of tables.now.lists row.now) }
+// The variables of a column; none where it has not their form.
+#[tactic(auto, unfolding(book_rules::specs::Stored::variables_in))]
+fn variables_of(alloc: Global, column: &str) -> Result<Vars, Memory>
+    ensures { IfOk result (λ variables. variables ≡ variables_in column.now) }
 {
-    if row.canary == 0 {
-        return Ok(row.share == 0 && row.canary_vars.is_empty());
+    let pairs = match read_column(alloc, column)? {
+        Some(pairs) => pairs,
+        None => Vec::new(alloc),
+    };
+    Ok(Vars {
+        pairs: Seq::of(pairs),
+    })
+}
+
+// The canary of a row, whose number is this.
+fn canary_of(
+    alloc: Global,
+    row: &StageRow,
+    number: u32,
+    variables: &Vars,
+) -> Result<Option<Canary>, Memory>
+    requires number { number ≡ row.now.canary }
+    requires variables { variables.now ≡ variables_in row.now.vars }
+    ensures { IfOk result (λ canary. canary ≡ canary_of_row row.now) }
+{
+    if number == 0 {
+        return Ok(None);
     }
-    if !is_deployed(tables, row.api.as_str(), row.canary) || row.share > WHOLE_SHARE {
-        return Ok(false);
-    }
-    Ok(read_variables(alloc, row.canary_vars.as_str())?.is_some())
+    let own = variables_of(alloc, row.canary_vars.as_str())?;
+    let merged = merged(alloc, variables, &own)?;
+    Ok(Some(Canary {
+        deployment: number,
+        share: row.share,
+        variables: Shared::new(alloc, merged)?,
+    }))
+}
+
+/// What the row of a stage stands for, whose numbers of deployments are these.
+pub fn read_standing(
+    alloc: Global,
+    row: &StageRow,
+    deployment: u32,
+    canary: u32,
+) -> Result<Standing, Memory>
+    requires deployment { deployment ≡ row.now.deployment }
+    requires canary { canary ≡ row.now.canary }
+    ensures { IfOk result (λ standing. standing ≡ standing_of row.now) }
+{
+    let variables = variables_of(alloc, row.vars.as_str())?;
+    let canary = canary_of(alloc, row, canary, &variables)?;
+    Ok(Standing {
+        deployment,
+        variables: Shared::new(alloc, variables)?,
+        canary,
+    })
 }
 
 // What a row stands for, where the row is taken.
-#[tactic(auto, unfolding(book_rules::specs::Commands::most_stages, book_rules::specs::Stored::variables_in))]
+#[tactic(auto, unfolding(book_rules::specs::Limits::most_stages))]
 fn read_stage(
     alloc: Global,
     tables: &Tables,
@@ -108,20 +164,15 @@ fn read_stage(
     if before.len() >= MOST_STAGES
         || !is_name(row.stage.as_str())
         || !is_deployed(tables, row.api.as_str(), row.deployment)
+        || !is_vars_column(alloc, row.vars.as_str())?
     {
         return Ok(None);
     }
-    let Some(pairs) = read_variables(alloc, row.vars.as_str())? else {
+    let Some(canary) = read_canary(alloc, tables, row)? else {
         return Ok(None);
     };
-    if !takes_canary(alloc, tables, row)? {
-        return Ok(None);
-    }
-    let pairs = Seq::of(pairs);
-    Ok(Some(Standing {
-        deployment: row.deployment as u32,
-        variables: Shared::new(alloc, Vars { pairs })?,
-    }))
+    let standing = read_standing(alloc, row, row.deployment as u32, canary)?;
+    Ok(Some(standing))
 }
 
 /// Tests the stages, and reads their variables.

@@ -5,7 +5,7 @@ use Rattle.std.proofs.lemmas.List.{reverse-append}
 use Rattle.keeper_core.specs.Lists.{Lists}
 use Rattle.keeper_core.specs.Keeping.{Planned}
 use Rattle.book_rules.specs.Machine.{opened, after, row_of}
-use Rattle.book_rules.specs.History.{state_of, state_after, plan_of, plan_after, calls_of, is_changing}
+use Rattle.book_rules.specs.History.{state_of, state_after, plan_of, plan_after, calls_of, is_changing, rewrites}
 use Rattle.book_rules.specs.declared.events.Entry.{Entry}
 
 -- what stands after a history and one entry more
@@ -20,7 +20,7 @@ state_after-nil opening = refl
 
 -- the keeper's calls after a history and one entry more
 pub plan_after-more : (opening : Lists) (plan : Planned) (history : List Entry) (entry : Entry)
-    → plan_after opening plan (history ++ entry ∷ []) ≡ calls_of (is_changing opening history entry.event) (plan_after opening plan history)
+    → plan_after opening plan (history ++ entry ∷ []) ≡ calls_of (rewrites entry.event) (is_changing opening history entry.event) (plan_after opening plan history)
 unfolding plan_after state_after
 plan_after-more opening plan history entry = ap (plan_of opening plan) (reverse-append history (entry ∷ []))
 

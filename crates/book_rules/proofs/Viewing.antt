@@ -10,26 +10,34 @@ use Rattle.call_facts.specs.declared.vars.Vars.{Vars}
 use Rattle.keeper_core.specs.Lists.{Lists, is_api, is_deployment, is_stage, api_behind, deployment_behind, stage_behind, api_row, deployment_row, stage_row, adjust, insert_before, put_by, put}
 use Rattle.keeper_core.specs.declared.rows.Row.{Row}
 use Rattle.keeper_core.specs.declared.rows.Row.TheVariants.{Api, Deployment, Stage}
+use Rattle.keeper_core.specs.declared.rows.Row.TheVariants as row
 use Rattle.keeper_core.specs.declared.rows.ApiRow.{ApiRow}
 use Rattle.keeper_core.specs.declared.rows.DeploymentRow.{DeploymentRow}
 use Rattle.keeper_core.specs.declared.rows.StageRow.{StageRow}
 use Rattle.keeper_core.proofs.Finding.{find_adjusted, find_beside_adjusted, find_inserted, find_beside_inserted}
 use Rattle.book_rules.specs.Names.{are_variables}
-use Rattle.book_rules.specs.Stored.{definition_of, deployed_of, form_of, column_of, variables_in, stored}
-use Rattle.book_rules.specs.Commands.{Outcome, says, unless, writes, commanded, first_refusal, put_api_tests, put_stage_tests, deployed, deployment_by as next_of, api_of, stage_of, next_deployment, most_deployments, most_variables, most_stages}
-use Rattle.book_rules.specs.Machine.{State, opened, time_of, viewed, entered, outcome_of, row_of, put_kept}
+use Rattle.book_rules.specs.Stored.{definition_of, deployed_of, form_of, column_of, merged_in, variables_in, stored}
+use Rattle.book_rules.specs.Admissions.{admitted}
+use Rattle.book_rules.specs.Commands.{commanded}
+use Rattle.book_rules.specs.Limits.{most_deployments, most_variables, most_stages}
+use Rattle.book_rules.specs.Outcomes.{Outcome, says, unless, writes, first_refusal}
+use Rattle.book_rules.specs.StageCommands.{put_api_tests, put_stage_tests, put_canary_tests, canary_for, with_canary, promote, promote_tests, promoted, deployed, deployment_by as next_of, api_of, stage_of, next_deployment}
+use Rattle.book_rules.specs.Machine.{State, opened, time_of, is_taken, viewed, entered, entered_as, outcome_of, row_of, put_kept}
 use Rattle.book_rules.specs.History.{state_of, state_after}
-use Rattle.book_rules.specs.Views.{Staged, staged_of, command_of, kept_command, definition_after, definition_by, stage_after, stage_by, deployment_after, deployment_by, viewed_by, entered_by, ViewsAreOfTheLastCommands}
+use Rattle.book_rules.specs.Views.{Staged, staged_of, staged_with, with_canary_of, merged_of, promoted_of, no_variables, command_of, kept_command, definition_after, definition_by, stage_after, stage_by, deployment_after, deployment_by, viewed_by, is_taken_by, entered_by_as, entered_by, ViewsAreOfTheLastCommands}
 use Rattle.book_rules.specs.declared.events.Command.{Command}
-use Rattle.book_rules.specs.declared.events.Command.TheVariants.{PutApi, Deploy, PutStage, Shutdown}
+use Rattle.book_rules.specs.declared.events.Command.TheVariants.{PutApi, Deploy, PutStage, PutCanary, PromoteCanary, PutKey, PutPlan, JoinKey, Grant, Usage, Shutdown}
 use Rattle.book_rules.specs.declared.events.Event.{Event}
-use Rattle.book_rules.specs.declared.events.Event.TheVariants.{Enter, Admin, Leave}
+use Rattle.book_rules.specs.declared.events.Event.TheVariants.{Enter, Admit, Admin, Leave}
 use Rattle.book_rules.specs.declared.events.Entry.{Entry}
 use Rattle.book_rules.specs.declared.replies.Refusal.{Refusal}
-use Rattle.book_rules.specs.declared.replies.Refusal.TheVariants.{BadName, NoApi, NoDeployment, Full}
+use Rattle.book_rules.specs.declared.replies.Refusal.TheVariants.{BadName, NoApi, NoDeployment, NoStage, BadShare, Full}
 use Rattle.book_rules.specs.declared.replies.Reply.{Reply}
 use Rattle.book_rules.specs.declared.replies.Reply.TheVariants.{Done, Deployed, Refused}
+use Rattle.record_fields.specs.Columns.{column_pairs}
+use Rattle.stage_canary.specs.declared.share.TheConstants.{WHOLE_SHARE}
 use Rattle.book_rules.proofs.Columns.{variables_back}
+use Rattle.book_rules.proofs.PlanRows.{IsOfPlans, is_of_plans, commanded_plans, admitted_plans}
 
 -- texts that are told to be equal are
 same_text : (a b : List ℕ) → bytes_eq a b ≡ true → a ≡ b
@@ -156,15 +164,30 @@ stage_put rows row api stage false e =
     beside_put (is_stage row.api row.stage) (stage_behind row.api row.stage) row rows (is_stage api stage) e
     (λ y h. other_stage y row.api row.stage api stage e h) (find (is_stage row.api row.stage) rows)
 
+-- a row that is found under a key has it
+pub found_named : (rows : List StageRow) (api stage : List ℕ) (row : StageRow) → find (is_stage api stage) rows ≡ Some row → row.api ≡ api
+found_named rows api stage row e = same_text row.api api (first_of (bytes_eq row.api api) (bytes_eq row.stage stage) (found_holds (is_stage api stage) rows row e))
+
+found_titled : (rows : List StageRow) (api stage : List ℕ) (row : StageRow) → find (is_stage api stage) rows ≡ Some row → row.stage ≡ stage
+found_titled rows api stage row e = same_text row.stage stage (second_of (bytes_eq row.api api) (bytes_eq row.stage stage) (found_holds (is_stage api stage) rows row e))
+
 -- What a command leaves, whatever its tests say and whether or not it is kept.
 abbrev left : Option Row → Bool → Lists → Lists
 left = put_kept
 
--- a stage keeps each variable once
+-- an empty column is of no variables
+none_back : variables_in [] ≡ no_variables
+unfolding variables_in column_pairs
+none_back = refl
+
+-- a stage keeps each variable once, and its canary
 staged_back : (found : Option StageRow) (name title : List ℕ) (number : ℕ) (variables : Vars) → are_variables variables.pairs ≡ true
-    → staged_of (stage_of found name title number (column_of (once variables))) ≡ record { deployment = number; variables = once variables }
-staged_back None name title number variables h = ap (λ v. record { deployment = number; variables = v }) (variables_back variables h)
-staged_back (Some row) name title number variables h = ap (λ v. record { deployment = number; variables = v }) (variables_back variables h)
+    → staged_of (stage_of found name title number (column_of (once variables))) ≡ staged_with number variables (option_map staged_of found)
+staged_back None name title number variables h =
+    ap (λ v. record { deployment = number; variables = v; canary = 0; share = 0; canary_variables = variables_in [] }) (variables_back variables h)
+    ∙ ap (λ v. record { deployment = number; variables = once variables; canary = 0; share = 0; canary_variables = v }) none_back
+staged_back (Some row) name title number variables h =
+    ap (λ v. record { deployment = number; variables = v; canary = row.canary; share = row.share; canary_variables = variables_in row.canary_vars }) (variables_back variables h)
 
 named_as : (found : Option StageRow) (name title : List ℕ) (number : ℕ) (vars : List ℕ) → (stage_of found name title number vars).api ≡ name
 named_as None name title number vars = refl
@@ -174,23 +197,37 @@ titled_as : (found : Option StageRow) (name title : List ℕ) (number : ℕ) (va
 titled_as None name title number vars = refl
 titled_as (Some row) name title number vars = refl
 
--- the stage after a PutStage that was taken
-module _ (rows : List StageRow) (found : Option StageRow) (name title : List ℕ) (number : ℕ) (variables : Vars) (taken : are_variables variables.pairs ≡ true) where
-  abbrev stage_row' : StageRow
-  stage_row' = stage_of found name title number (column_of (once variables))
+-- a stage with a canary, and one whose canary was promoted
+canary_back : (row : StageRow) (number share : ℕ) (variables : Vars) → are_variables variables.pairs ≡ true
+    → staged_of (with_canary number share (column_of (once variables)) row) ≡ with_canary_of number share variables (staged_of row)
+canary_back row number share variables h =
+    ap (λ v. record { deployment = row.deployment; variables = variables_in row.vars; canary = number; share = share; canary_variables = v }) (variables_back variables h)
 
+promoted_back : (row : StageRow) → staged_of (promoted row) ≡ promoted_of (staged_of row)
+promoted_back row =
+    ap (λ v. record { deployment = row.canary; variables = variables_in (column_of (merged_in row)); canary = 0; share = 0; canary_variables = v }) none_back
+
+-- a stage after a row was put that the command on it wrote
+module _ (rows : List StageRow) (row : StageRow) (name title : List ℕ) (after : Option Staged → Option Staged) (named : row.api ≡ name) (titled : row.stage ≡ title)
+    (is : Some (staged_of row) ≡ after (option_map staged_of (find (is_stage name title) rows))) where
   staged_put : (api stage : List ℕ)
-      → option_map staged_of (find (is_stage api stage) (put_by (is_stage stage_row'.api stage_row'.stage) (stage_behind stage_row'.api stage_row'.stage) stage_row' rows))
-      ≡ cond (bytes_eq name api && bytes_eq title stage) (Some (record { deployment = number; variables = once variables })) (option_map staged_of (find (is_stage api stage) rows))
+      → option_map staged_of (find (is_stage api stage) (put_by (is_stage row.api row.stage) (stage_behind row.api row.stage) row rows))
+      ≡ cond (bytes_eq name api && bytes_eq title stage) (after (option_map staged_of (find (is_stage api stage) rows))) (option_map staged_of (find (is_stage api stage) rows))
   staged_put api stage =
-      let b = bytes_eq stage_row'.api api && bytes_eq stage_row'.stage stage in
-      let same : b ≡ (bytes_eq name api && bytes_eq title stage) =
-      ap (λ a. bytes_eq a api && bytes_eq stage_row'.stage stage) (named_as found name title number (column_of (once variables)))
-      ∙ ap (λ s. bytes_eq name api && bytes_eq s stage) (titled_as found name title number (column_of (once variables))) in
-      ap (option_map staged_of) (stage_put rows stage_row' api stage b refl)
-      ∙ mapped staged_of b stage_row' (find (is_stage api stage) rows)
-      ∙ ap (λ s. cond b (Some s) (option_map staged_of (find (is_stage api stage) rows))) (staged_back found name title number variables taken)
-      ∙ ap (λ c. cond c (Some (record { deployment = number; variables = once variables })) (option_map staged_of (find (is_stage api stage) rows))) same
+      ap (option_map staged_of) (stage_put rows row api stage (bytes_eq row.api api && bytes_eq row.stage stage) refl)
+      ∙ mapped staged_of (bytes_eq row.api api && bytes_eq row.stage stage) row (find (is_stage api stage) rows)
+      ∙ ap (λ a. cond (bytes_eq a api && bytes_eq row.stage stage) (Some (staged_of row)) (option_map staged_of (find (is_stage api stage) rows))) named
+      ∙ ap (λ s. cond (bytes_eq name api && bytes_eq s stage) (Some (staged_of row)) (option_map staged_of (find (is_stage api stage) rows))) titled
+      ∙ by_same (bytes_eq name api && bytes_eq title stage) refl
+    where
+      by_same : (b : Bool) → (bytes_eq name api && bytes_eq title stage) ≡ b
+          → cond b (Some (staged_of row)) (option_map staged_of (find (is_stage api stage) rows))
+          ≡ cond b (after (option_map staged_of (find (is_stage api stage) rows))) (option_map staged_of (find (is_stage api stage) rows))
+      by_same false e = refl
+      by_same true e =
+          is
+          ∙ ap (λ a. after (option_map staged_of (find (is_stage a title) rows))) (same_text name api (first_of (bytes_eq name api) (bytes_eq title stage) e))
+          ∙ ap (λ s. after (option_map staged_of (find (is_stage api s) rows))) (same_text title stage (second_of (bytes_eq name api) (bytes_eq title stage) e))
 
 -- variables of a PutStage that is not refused are variables
 taken_variables : (a b c : Bool) (rest : Option Refusal) (name : Refusal) → cond (not (a && b && c)) (Some name) rest ≡ None → c ≡ true
@@ -205,6 +242,19 @@ module _ {X : Type 0} (of : Lists → X) (after : Option Command → X → X) (s
       → of (put_kept (Some row) kept lists) ≡ after (cond (is_some (Some row) && kept) (Some command) None) (of lists)
   by_row lists command row true e = e
   by_row lists command row false e = sym (stays (of lists))
+
+  by_unless : (lists : Lists) (command : Command) (outcome : Outcome) (kept : Bool) (r : Option Refusal)
+      → (r ≡ None → of (put_kept outcome.row kept lists) ≡ after (cond (is_some outcome.row && kept) (Some command) None) (of lists))
+      → of (put_kept (unless r outcome).row kept lists) ≡ after (cond (is_some (unless r outcome).row && kept) (Some command) None) (of lists)
+  by_unless lists command outcome kept None e = e refl
+  by_unless lists command outcome kept (Some refusal) e = sym (stays (of lists))
+
+  -- rows of keys, plans and joins leave it as it is, and so does the command
+  by_neutral : (lists : Lists) (command : Option Command) (row : Option Row) (kept : Bool) → ((r : Row) → row ≡ Some r → of (put r lists) ≡ of lists) → ((x : X) → after command x ≡ x)
+      → of (put_kept row kept lists) ≡ after (cond (is_some row && kept) command None) (of lists)
+  by_neutral lists command None kept same left = sym (stays (of lists))
+  by_neutral lists command (Some row) true same left = same row refl ∙ sym (left (of lists))
+  by_neutral lists command (Some row) false same left = sym (stays (of lists))
 
   by_refusal : (lists : Lists) (command : Command) (row : Row) (answer : Reply) (kept : Bool) (r : Option Refusal)
       → (r ≡ None → of (put row lists) ≡ after (Some command) (of lists))
@@ -238,36 +288,167 @@ unfolding later_tests
 are_taken lists name title number variables none =
     taken_variables (is_name name) (is_name title) (are_variables variables.pairs) (later_tests lists name title number variables) BadName none
 
+later_canary_tests : Lists → List ℕ → List ℕ → ℕ → ℕ → Vars → Option Refusal
+later_canary_tests lists name title number share variables =
+    first_refusal
+    ((is_none (stage_row lists name title), NoStage)
+    ∷ (is_none (deployment_row lists name number), NoDeployment)
+    ∷ (nat_lt WHOLE_SHARE share, BadShare)
+    ∷ (nat_lt most_variables (length variables.pairs), Full)
+    ∷ [])
+
+-- a PutCanary that is not refused has variables
+are_taken_too : (lists : Lists) (name title : List ℕ) (number share : ℕ) (variables : Vars) → first_refusal (put_canary_tests lists name title number share variables) ≡ None
+    → are_variables variables.pairs ≡ true
+unfolding later_canary_tests
+are_taken_too lists name title number share variables none =
+    taken_variables (is_name name) (is_name title) (are_variables variables.pairs) (later_canary_tests lists name title number share variables) BadName none
+
+-- what is known of the tables that is not of keys, plans and joins
+module _ {X : Type 0} (of : Lists → X) (same : (row : Row) (lists : Lists) → is_of_plans row ≡ true → of (put row lists) ≡ of lists) where
+  beside_plans : (lists : Lists) (row : Option Row) → IsOfPlans row → (r : Row) → row ≡ Some r → of (put r lists) ≡ of lists
+  beside_plans lists None h r e = absurd cc
+  beside_plans lists (Some row) h r e = same r lists (subst (λ x. is_of_plans x ≡ true) (same_some row r e) h)
+
+definitions_beside : (api : List ℕ) (row : Row) (lists : Lists) → is_of_plans row ≡ true
+    → option_map definition_of (api_row (put row lists) api) ≡ option_map definition_of (api_row lists api)
+definitions_beside api (row.Meta row) lists h = refl
+definitions_beside api (Api row) lists h = absurd cc
+definitions_beside api (Deployment row) lists h = refl
+definitions_beside api (Stage row) lists h = refl
+definitions_beside api (row.Key row) lists h = refl
+definitions_beside api (row.Plan row) lists h = refl
+definitions_beside api (row.Join row) lists h = refl
+
+stages_beside : (api stage : List ℕ) (row : Row) (lists : Lists) → is_of_plans row ≡ true
+    → option_map staged_of (stage_row (put row lists) api stage) ≡ option_map staged_of (stage_row lists api stage)
+stages_beside api stage (row.Meta row) lists h = refl
+stages_beside api stage (Api row) lists h = refl
+stages_beside api stage (Deployment row) lists h = refl
+stages_beside api stage (Stage row) lists h = absurd cc
+stages_beside api stage (row.Key row) lists h = refl
+stages_beside api stage (row.Plan row) lists h = refl
+stages_beside api stage (row.Join row) lists h = refl
+
+deployments_beside : (api : List ℕ) (number : ℕ) (row : Row) (lists : Lists) → is_of_plans row ≡ true
+    → option_map deployed_of (deployment_row (put row lists) api number) ≡ option_map deployed_of (deployment_row lists api number)
+deployments_beside api number (row.Meta row) lists h = refl
+deployments_beside api number (Api row) lists h = refl
+deployments_beside api number (Deployment row) lists h = absurd cc
+deployments_beside api number (Stage row) lists h = refl
+deployments_beside api number (row.Key row) lists h = refl
+deployments_beside api number (row.Plan row) lists h = refl
+deployments_beside api number (row.Join row) lists h = refl
+
+-- a canary that is put, and one that is promoted, leave what is no stage's
+module _ {X : Type 0} (of : Lists → X) (after : Option Command → X → X) (stays : (x : X) → after None x ≡ x) (same : (row : StageRow) (lists : Lists) → of (put (Stage row) lists) ≡ of lists) where
+  by_canary : (lists : Lists) (command : Command) (left : (x : X) → after (Some command) x ≡ x) (found : Option StageRow) (number share : ℕ) (vars : List ℕ) (kept : Bool)
+      → of (put_kept (canary_for found number share vars).row kept lists) ≡ after (cond (is_some (canary_for found number share vars).row && kept) (Some command) None) (of lists)
+  by_canary lists command left None number share vars kept = sym (stays (of lists))
+  by_canary lists command left (Some row) number share vars kept =
+      by_row of after stays lists command (Stage (with_canary number share vars row)) kept (same (with_canary number share vars row) lists ∙ sym (left (of lists)))
+
+  by_promotion : (lists : Lists) (command : Command) (left : (x : X) → after (Some command) x ≡ x) (found : Option StageRow) (kept : Bool)
+      → of (put_kept (promote found).row kept lists) ≡ after (cond (is_some (promote found).row && kept) (Some command) None) (of lists)
+  by_promotion lists command left None kept = sym (stays (of lists))
+  by_promotion lists command left (Some row) kept =
+      by_refusal of after stays lists command (Stage (promoted row)) Done kept (first_refusal (promote_tests row)) (λ none. same (promoted row) lists ∙ sym (left (of lists)))
+
 -- The same of a command, for each of the three that a view has.
-definition_command : (lists : Lists) (command : Command) (kept : Bool) (api : List ℕ)
-    → option_map definition_of (api_row (put_kept (commanded lists command).row kept lists) api)
-    ≡ definition_after (cond (is_some (commanded lists command).row && kept) (Some command) None) api (option_map definition_of (api_row lists api))
-definition_command lists (PutApi name definition) kept api =
+definition_command : (lists : Lists) (t : ℕ) (command : Command) (kept : Bool) (api : List ℕ)
+    → option_map definition_of (api_row (put_kept (commanded lists t command).row kept lists) api)
+    ≡ definition_after (cond (is_some (commanded lists t command).row && kept) (Some command) None) api (option_map definition_of (api_row lists api))
+definition_command lists t (PutApi name definition) kept api =
     by_refusal (λ l. option_map definition_of (api_row l api)) (λ c. definition_after c api) (λ x. refl) lists (PutApi name definition) (Api (api_of name definition)) Done kept
     (first_refusal (put_api_tests lists name)) (λ none. definition_put lists.apis name api definition)
-definition_command lists (Deploy name) kept api =
+definition_command lists t (Deploy name) kept api =
     by_deploy (λ l. option_map definition_of (api_row l api)) (λ c. definition_after c api) (λ x. refl) lists name kept (api_row lists name) (deployed lists name) (λ row e. refl)
-definition_command lists (PutStage name title number variables) kept api =
+definition_command lists t (PutStage name title number variables) kept api =
     by_refusal (λ l. option_map definition_of (api_row l api)) (λ c. definition_after c api) (λ x. refl) lists (PutStage name title number variables)
     (Stage (stage_of (stage_row lists name title) name title number (column_of (once variables)))) Done kept
     (first_refusal (put_stage_tests lists name title number variables)) (λ none. refl)
-definition_command lists Shutdown kept api = refl
+definition_command lists t (PutCanary name title number share variables) kept api =
+    by_unless (λ l. option_map definition_of (api_row l api)) (λ c. definition_after c api) (λ x. refl) lists (PutCanary name title number share variables)
+    (canary_for (stage_row lists name title) number share (column_of (once variables))) kept (first_refusal (put_canary_tests lists name title number share variables))
+    (λ none. by_canary (λ l. option_map definition_of (api_row l api)) (λ c. definition_after c api) (λ x. refl) (λ row l. refl) lists (PutCanary name title number share variables) (λ x. refl)
+    (stage_row lists name title) number share (column_of (once variables)) kept)
+definition_command lists t (PromoteCanary name title) kept api =
+    by_promotion (λ l. option_map definition_of (api_row l api)) (λ c. definition_after c api) (λ x. refl) (λ row l. refl) lists (PromoteCanary name title) (λ x. refl) (stage_row lists name title) kept
+definition_command lists t (PutKey key value enabled) kept api =
+    by_neutral (λ l. option_map definition_of (api_row l api)) (λ c. definition_after c api) (λ x. refl) lists (Some (PutKey key value enabled)) (commanded lists t (PutKey key value enabled)).row kept
+    (beside_plans (λ l. option_map definition_of (api_row l api)) (definitions_beside api) lists (commanded lists t (PutKey key value enabled)).row (commanded_plans lists t (PutKey key value enabled) refl)) (λ x. refl)
+definition_command lists t (PutPlan plan throttle quota stages) kept api =
+    by_neutral (λ l. option_map definition_of (api_row l api)) (λ c. definition_after c api) (λ x. refl) lists (Some (PutPlan plan throttle quota stages)) (commanded lists t (PutPlan plan throttle quota stages)).row kept
+    (beside_plans (λ l. option_map definition_of (api_row l api)) (definitions_beside api) lists (commanded lists t (PutPlan plan throttle quota stages)).row (commanded_plans lists t (PutPlan plan throttle quota stages) refl)) (λ x. refl)
+definition_command lists t (JoinKey plan key) kept api =
+    by_neutral (λ l. option_map definition_of (api_row l api)) (λ c. definition_after c api) (λ x. refl) lists (Some (JoinKey plan key)) (commanded lists t (JoinKey plan key)).row kept
+    (beside_plans (λ l. option_map definition_of (api_row l api)) (definitions_beside api) lists (commanded lists t (JoinKey plan key)).row (commanded_plans lists t (JoinKey plan key) refl)) (λ x. refl)
+definition_command lists t (Grant plan key amount) kept api =
+    by_neutral (λ l. option_map definition_of (api_row l api)) (λ c. definition_after c api) (λ x. refl) lists (Some (Grant plan key amount)) (commanded lists t (Grant plan key amount)).row kept
+    (beside_plans (λ l. option_map definition_of (api_row l api)) (definitions_beside api) lists (commanded lists t (Grant plan key amount)).row (commanded_plans lists t (Grant plan key amount) refl)) (λ x. refl)
+definition_command lists t (Usage plan key) kept api =
+    by_neutral (λ l. option_map definition_of (api_row l api)) (λ c. definition_after c api) (λ x. refl) lists (Some (Usage plan key)) (commanded lists t (Usage plan key)).row kept
+    (beside_plans (λ l. option_map definition_of (api_row l api)) (definitions_beside api) lists (commanded lists t (Usage plan key)).row (commanded_plans lists t (Usage plan key) refl)) (λ x. refl)
+definition_command lists t Shutdown kept api = refl
 
-stage_command : (lists : Lists) (command : Command) (kept : Bool) (api stage : List ℕ)
-    → option_map staged_of (stage_row (put_kept (commanded lists command).row kept lists) api stage)
-    ≡ stage_after (cond (is_some (commanded lists command).row && kept) (Some command) None) api stage (option_map staged_of (stage_row lists api stage))
-stage_command lists (PutApi name definition) kept api stage =
+stage_command : (lists : Lists) (t : ℕ) (command : Command) (kept : Bool) (api stage : List ℕ)
+    → option_map staged_of (stage_row (put_kept (commanded lists t command).row kept lists) api stage)
+    ≡ stage_after (cond (is_some (commanded lists t command).row && kept) (Some command) None) api stage (option_map staged_of (stage_row lists api stage))
+stage_command lists t (PutApi name definition) kept api stage =
     by_refusal (λ l. option_map staged_of (stage_row l api stage)) (λ c. stage_after c api stage) (λ x. refl) lists (PutApi name definition) (Api (api_of name definition)) Done kept
     (first_refusal (put_api_tests lists name)) (λ none. refl)
-stage_command lists (Deploy name) kept api stage =
+stage_command lists t (Deploy name) kept api stage =
     by_deploy (λ l. option_map staged_of (stage_row l api stage)) (λ c. stage_after c api stage) (λ x. refl) lists name kept (api_row lists name) (deployed lists name) (λ row e. refl)
-stage_command lists (PutStage name title number variables) kept api stage =
+stage_command lists t (PutStage name title number variables) kept api stage =
     by_refusal (λ l. option_map staged_of (stage_row l api stage)) (λ c. stage_after c api stage) (λ x. refl) lists (PutStage name title number variables)
     (Stage (stage_of (stage_row lists name title) name title number (column_of (once variables)))) Done kept
     (first_refusal (put_stage_tests lists name title number variables))
-    (λ none. staged_put lists.stages (stage_row lists name title) name title number variables
-    (are_taken lists name title number variables none) api stage)
-stage_command lists Shutdown kept api stage = refl
+    (λ none. staged_put lists.stages (stage_of (stage_row lists name title) name title number (column_of (once variables))) name title (λ before. Some (staged_with number variables before))
+    (named_as (stage_row lists name title) name title number (column_of (once variables))) (titled_as (stage_row lists name title) name title number (column_of (once variables)))
+    (ap Some (staged_back (stage_row lists name title) name title number variables (are_taken lists name title number variables none))) api stage)
+stage_command lists t (PutCanary name title number share variables) kept api stage =
+    by_unless (λ l. option_map staged_of (stage_row l api stage)) (λ c. stage_after c api stage) (λ x. refl) lists (PutCanary name title number share variables)
+    (canary_for (stage_row lists name title) number share (column_of (once variables))) kept (first_refusal (put_canary_tests lists name title number share variables))
+    (λ none. by_found (are_taken_too lists name title number share variables none) (stage_row lists name title) refl)
+  where
+    by_found : are_variables variables.pairs ≡ true → (found : Option StageRow) → stage_row lists name title ≡ found
+        → option_map staged_of (stage_row (put_kept (canary_for found number share (column_of (once variables))).row kept lists) api stage)
+        ≡ stage_after (cond (is_some (canary_for found number share (column_of (once variables))).row && kept) (Some (PutCanary name title number share variables)) None) api stage
+        (option_map staged_of (stage_row lists api stage))
+    by_found taken None e = refl
+    by_found taken (Some row) e =
+        by_row (λ l. option_map staged_of (stage_row l api stage)) (λ c. stage_after c api stage) (λ x. refl) lists (PutCanary name title number share variables)
+        (Stage (with_canary number share (column_of (once variables)) row)) kept
+        (staged_put lists.stages (with_canary number share (column_of (once variables)) row) name title (option_map (with_canary_of number share variables))
+        (found_named lists.stages name title row e) (found_titled lists.stages name title row e)
+        (ap Some (canary_back row number share variables taken) ∙ ap (λ f. option_map (with_canary_of number share variables) (option_map staged_of f)) (sym e)) api stage)
+stage_command lists t (PromoteCanary name title) kept api stage = by_found (stage_row lists name title) refl
+  where
+    by_found : (found : Option StageRow) → stage_row lists name title ≡ found
+        → option_map staged_of (stage_row (put_kept (promote found).row kept lists) api stage)
+        ≡ stage_after (cond (is_some (promote found).row && kept) (Some (PromoteCanary name title)) None) api stage (option_map staged_of (stage_row lists api stage))
+    by_found None e = refl
+    by_found (Some row) e =
+        by_refusal (λ l. option_map staged_of (stage_row l api stage)) (λ c. stage_after c api stage) (λ x. refl) lists (PromoteCanary name title) (Stage (promoted row)) Done kept
+        (first_refusal (promote_tests row))
+        (λ none. staged_put lists.stages (promoted row) name title (option_map promoted_of) (found_named lists.stages name title row e) (found_titled lists.stages name title row e)
+        (ap Some (promoted_back row) ∙ ap (λ f. option_map promoted_of (option_map staged_of f)) (sym e)) api stage)
+stage_command lists t (PutKey key value enabled) kept api stage =
+    by_neutral (λ l. option_map staged_of (stage_row l api stage)) (λ c. stage_after c api stage) (λ x. refl) lists (Some (PutKey key value enabled)) (commanded lists t (PutKey key value enabled)).row kept
+    (beside_plans (λ l. option_map staged_of (stage_row l api stage)) (stages_beside api stage) lists (commanded lists t (PutKey key value enabled)).row (commanded_plans lists t (PutKey key value enabled) refl)) (λ x. refl)
+stage_command lists t (PutPlan plan throttle quota stages) kept api stage =
+    by_neutral (λ l. option_map staged_of (stage_row l api stage)) (λ c. stage_after c api stage) (λ x. refl) lists (Some (PutPlan plan throttle quota stages)) (commanded lists t (PutPlan plan throttle quota stages)).row kept
+    (beside_plans (λ l. option_map staged_of (stage_row l api stage)) (stages_beside api stage) lists (commanded lists t (PutPlan plan throttle quota stages)).row (commanded_plans lists t (PutPlan plan throttle quota stages) refl)) (λ x. refl)
+stage_command lists t (JoinKey plan key) kept api stage =
+    by_neutral (λ l. option_map staged_of (stage_row l api stage)) (λ c. stage_after c api stage) (λ x. refl) lists (Some (JoinKey plan key)) (commanded lists t (JoinKey plan key)).row kept
+    (beside_plans (λ l. option_map staged_of (stage_row l api stage)) (stages_beside api stage) lists (commanded lists t (JoinKey plan key)).row (commanded_plans lists t (JoinKey plan key) refl)) (λ x. refl)
+stage_command lists t (Grant plan key amount) kept api stage =
+    by_neutral (λ l. option_map staged_of (stage_row l api stage)) (λ c. stage_after c api stage) (λ x. refl) lists (Some (Grant plan key amount)) (commanded lists t (Grant plan key amount)).row kept
+    (beside_plans (λ l. option_map staged_of (stage_row l api stage)) (stages_beside api stage) lists (commanded lists t (Grant plan key amount)).row (commanded_plans lists t (Grant plan key amount) refl)) (λ x. refl)
+stage_command lists t (Usage plan key) kept api stage =
+    by_neutral (λ l. option_map staged_of (stage_row l api stage)) (λ c. stage_after c api stage) (λ x. refl) lists (Some (Usage plan key)) (commanded lists t (Usage plan key)).row kept
+    (beside_plans (λ l. option_map staged_of (stage_row l api stage)) (stages_beside api stage) lists (commanded lists t (Usage plan key)).row (commanded_plans lists t (Usage plan key) refl)) (λ x. refl)
+stage_command lists t Shutdown kept api stage = refl
 
 deployment_deployed : (lists : Lists) (row : ApiRow) (name api : List ℕ) (number : ℕ) → api_row lists name ≡ Some row
     → option_map deployed_of (deployment_row (put (Deployment (next_deployment row (deployed lists name))) lists) api number)
@@ -298,41 +479,83 @@ deployment_deployed lists row name api number e =
         (same_text name api same)
         (ap (λ d. cond (number == count + 1) d (option_map deployed_of (deployment_row lists api number))) (sym (ap (option_map definition_of) e)))
 
-deployment_command : (lists : Lists) (command : Command) (kept : Bool) (api : List ℕ) (number : ℕ)
-    → option_map deployed_of (deployment_row (put_kept (commanded lists command).row kept lists) api number)
-    ≡ deployment_after (cond (is_some (commanded lists command).row && kept) (Some command) None) api number (deployed lists api) (option_map definition_of (api_row lists api)) (option_map deployed_of (deployment_row lists api number))
-deployment_command lists (PutApi name definition) kept api number =
+deployment_command : (lists : Lists) (t : ℕ) (command : Command) (kept : Bool) (api : List ℕ) (number : ℕ)
+    → option_map deployed_of (deployment_row (put_kept (commanded lists t command).row kept lists) api number)
+    ≡ deployment_after (cond (is_some (commanded lists t command).row && kept) (Some command) None) api number (deployed lists api) (option_map definition_of (api_row lists api)) (option_map deployed_of (deployment_row lists api number))
+deployment_command lists t (PutApi name definition) kept api number =
     by_refusal (λ l. option_map deployed_of (deployment_row l api number)) (λ c. deployment_after c api number (deployed lists api) (option_map definition_of (api_row lists api))) (λ x. refl)
     lists (PutApi name definition) (Api (api_of name definition)) Done kept (first_refusal (put_api_tests lists name)) (λ none. refl)
-deployment_command lists (Deploy name) kept api number =
+deployment_command lists t (Deploy name) kept api number =
     by_deploy (λ l. option_map deployed_of (deployment_row l api number)) (λ c. deployment_after c api number (deployed lists api) (option_map definition_of (api_row lists api))) (λ x. refl)
     lists name kept (api_row lists name) (deployed lists name) (λ row e. deployment_deployed lists row name api number e)
-deployment_command lists (PutStage name title count variables) kept api number =
+deployment_command lists t (PutStage name title count variables) kept api number =
     by_refusal (λ l. option_map deployed_of (deployment_row l api number)) (λ c. deployment_after c api number (deployed lists api) (option_map definition_of (api_row lists api))) (λ x. refl)
     lists (PutStage name title count variables) (Stage (stage_of (stage_row lists name title) name title count (column_of (once variables)))) Done kept
     (first_refusal (put_stage_tests lists name title count variables)) (λ none. refl)
-deployment_command lists Shutdown kept api number = refl
+deployment_command lists t (PutCanary name title count share variables) kept api number =
+    by_unless (λ l. option_map deployed_of (deployment_row l api number)) (λ c. deployment_after c api number (deployed lists api) (option_map definition_of (api_row lists api))) (λ x. refl)
+    lists (PutCanary name title count share variables) (canary_for (stage_row lists name title) count share (column_of (once variables))) kept
+    (first_refusal (put_canary_tests lists name title count share variables))
+    (λ none. by_canary (λ l. option_map deployed_of (deployment_row l api number)) (λ c. deployment_after c api number (deployed lists api) (option_map definition_of (api_row lists api))) (λ x. refl) (λ row l. refl)
+    lists (PutCanary name title count share variables) (λ x. refl) (stage_row lists name title) count share (column_of (once variables)) kept)
+deployment_command lists t (PromoteCanary name title) kept api number =
+    by_promotion (λ l. option_map deployed_of (deployment_row l api number)) (λ c. deployment_after c api number (deployed lists api) (option_map definition_of (api_row lists api))) (λ x. refl) (λ row l. refl)
+    lists (PromoteCanary name title) (λ x. refl) (stage_row lists name title) kept
+deployment_command lists t (PutKey key value enabled) kept api number =
+    by_neutral (λ l. option_map deployed_of (deployment_row l api number)) (λ c. deployment_after c api number (deployed lists api) (option_map definition_of (api_row lists api))) (λ x. refl)
+    lists (Some (PutKey key value enabled)) (commanded lists t (PutKey key value enabled)).row kept
+    (beside_plans (λ l. option_map deployed_of (deployment_row l api number)) (deployments_beside api number) lists (commanded lists t (PutKey key value enabled)).row (commanded_plans lists t (PutKey key value enabled) refl)) (λ x. refl)
+deployment_command lists t (PutPlan plan throttle quota stages) kept api number =
+    by_neutral (λ l. option_map deployed_of (deployment_row l api number)) (λ c. deployment_after c api number (deployed lists api) (option_map definition_of (api_row lists api))) (λ x. refl)
+    lists (Some (PutPlan plan throttle quota stages)) (commanded lists t (PutPlan plan throttle quota stages)).row kept
+    (beside_plans (λ l. option_map deployed_of (deployment_row l api number)) (deployments_beside api number) lists (commanded lists t (PutPlan plan throttle quota stages)).row (commanded_plans lists t (PutPlan plan throttle quota stages) refl)) (λ x. refl)
+deployment_command lists t (JoinKey plan key) kept api number =
+    by_neutral (λ l. option_map deployed_of (deployment_row l api number)) (λ c. deployment_after c api number (deployed lists api) (option_map definition_of (api_row lists api))) (λ x. refl)
+    lists (Some (JoinKey plan key)) (commanded lists t (JoinKey plan key)).row kept
+    (beside_plans (λ l. option_map deployed_of (deployment_row l api number)) (deployments_beside api number) lists (commanded lists t (JoinKey plan key)).row (commanded_plans lists t (JoinKey plan key) refl)) (λ x. refl)
+deployment_command lists t (Grant plan key amount) kept api number =
+    by_neutral (λ l. option_map deployed_of (deployment_row l api number)) (λ c. deployment_after c api number (deployed lists api) (option_map definition_of (api_row lists api))) (λ x. refl)
+    lists (Some (Grant plan key amount)) (commanded lists t (Grant plan key amount)).row kept
+    (beside_plans (λ l. option_map deployed_of (deployment_row l api number)) (deployments_beside api number) lists (commanded lists t (Grant plan key amount)).row (commanded_plans lists t (Grant plan key amount) refl)) (λ x. refl)
+deployment_command lists t (Usage plan key) kept api number =
+    by_neutral (λ l. option_map deployed_of (deployment_row l api number)) (λ c. deployment_after c api number (deployed lists api) (option_map definition_of (api_row lists api))) (λ x. refl)
+    lists (Some (Usage plan key)) (commanded lists t (Usage plan key)).row kept
+    (beside_plans (λ l. option_map deployed_of (deployment_row l api number)) (deployments_beside api number) lists (commanded lists t (Usage plan key)).row (commanded_plans lists t (Usage plan key) refl)) (λ x. refl)
+deployment_command lists t Shutdown kept api number = refl
 
 -- The same of an entry.
 definition_event : (state : State) (event : Event) (kept : Bool) (api : List ℕ)
     → option_map definition_of (api_row (put_kept (row_of state event) kept state.lists) api)
     ≡ definition_after (cond (is_some (row_of state event) && kept) (command_of event) None) api (option_map definition_of (api_row state.lists api))
 definition_event state (Enter moment word api' stage) kept api = refl
-definition_event state (Admin moment command) kept api = definition_command state.lists command kept api
+definition_event state (Admit moment api' stage value) kept api =
+    by_neutral (λ l. option_map definition_of (api_row l api)) (λ c. definition_after c api) (λ x. refl) state.lists None (row_of state (Admit moment api' stage value)) kept
+    (beside_plans (λ l. option_map definition_of (api_row l api)) (definitions_beside api) state.lists (row_of state (Admit moment api' stage value))
+    (admitted_plans state.lists (time_of state moment) (api', stage) value)) (λ x. refl)
+definition_event state (Admin moment command) kept api = definition_command state.lists (time_of state moment) command kept api
 definition_event state (Leave status cause) kept api = refl
 
 stage_event : (state : State) (event : Event) (kept : Bool) (api stage : List ℕ)
     → option_map staged_of (stage_row (put_kept (row_of state event) kept state.lists) api stage)
     ≡ stage_after (cond (is_some (row_of state event) && kept) (command_of event) None) api stage (option_map staged_of (stage_row state.lists api stage))
 stage_event state (Enter moment word api' stage') kept api stage = refl
-stage_event state (Admin moment command) kept api stage = stage_command state.lists command kept api stage
+stage_event state (Admit moment api' stage' value) kept api stage =
+    by_neutral (λ l. option_map staged_of (stage_row l api stage)) (λ c. stage_after c api stage) (λ x. refl) state.lists None (row_of state (Admit moment api' stage' value)) kept
+    (beside_plans (λ l. option_map staged_of (stage_row l api stage)) (stages_beside api stage) state.lists (row_of state (Admit moment api' stage' value))
+    (admitted_plans state.lists (time_of state moment) (api', stage') value)) (λ x. refl)
+stage_event state (Admin moment command) kept api stage = stage_command state.lists (time_of state moment) command kept api stage
 stage_event state (Leave status cause) kept api stage = refl
 
 deployment_event : (state : State) (event : Event) (kept : Bool) (api : List ℕ) (number : ℕ)
     → option_map deployed_of (deployment_row (put_kept (row_of state event) kept state.lists) api number)
     ≡ deployment_after (cond (is_some (row_of state event) && kept) (command_of event) None) api number (deployed state.lists api) (option_map definition_of (api_row state.lists api)) (option_map deployed_of (deployment_row state.lists api number))
 deployment_event state (Enter moment word api' stage) kept api number = refl
-deployment_event state (Admin moment command) kept api number = deployment_command state.lists command kept api number
+deployment_event state (Admit moment api' stage value) kept api number =
+    by_neutral (λ l. option_map deployed_of (deployment_row l api number)) (λ c. deployment_after c api number (deployed state.lists api) (option_map definition_of (api_row state.lists api))) (λ x. refl)
+    state.lists None (row_of state (Admit moment api' stage value)) kept
+    (beside_plans (λ l. option_map deployed_of (deployment_row l api number)) (deployments_beside api number) state.lists (row_of state (Admit moment api' stage value))
+    (admitted_plans state.lists (time_of state moment) (api', stage) value)) (λ x. refl)
+deployment_event state (Admin moment command) kept api number = deployment_command state.lists (time_of state moment) command kept api number
 deployment_event state (Leave status cause) kept api number = refl
 
 -- and so of all entries, the newest first
@@ -357,22 +580,29 @@ deployment_is opening (newest ∷ older) api number =
     ∙ ap (λ d. deployment_after command api number (deployed state.lists api) d (option_map deployed_of (deployment_row state.lists api number))) (definition_is opening older api)
     ∙ ap (deployment_after command api number (deployed state.lists api) (definition_by opening older api)) (deployment_is opening older api number)
 
--- a row that is found under a key has it
-pub found_named : (rows : List StageRow) (api stage : List ℕ) (row : StageRow) → find (is_stage api stage) rows ≡ Some row → row.api ≡ api
-found_named rows api stage row e = same_text row.api api (first_of (bytes_eq row.api api) (bytes_eq row.stage stage) (found_holds (is_stage api stage) rows row e))
-
-entered_is : (opening : Lists) (entries : List Entry) (place at : ℕ) (api stage : List ℕ) (found : Option StageRow)
+entered_is : (opening : Lists) (entries : List Entry) (place at word : ℕ) (api stage : List ℕ) (found : Option StageRow)
     → stage_row (state_of (opened opening) entries).lists api stage ≡ found
-    → entered (state_of (opened opening) entries).lists place at found ≡ entered_by opening entries place at api (option_map staged_of found)
-entered_is opening entries place at api stage None e = refl
-entered_is opening entries place at api stage (Some row) e =
-    ap (λ a. viewed place at row (deployment_row (state_of (opened opening) entries).lists a row.deployment)) (found_named (state_of (opened opening) entries).lists.stages api stage row e)
-    ∙ viewed_is row (deployment_row (state_of (opened opening) entries).lists api row.deployment)
-    ∙ ap (viewed_by place at (staged_of row)) (deployment_is opening entries api row.deployment)
+    → entered (state_of (opened opening) entries).lists place at word found ≡ entered_by opening entries place at word api (option_map staged_of found)
+entered_is opening entries place at word api stage None e = refl
+entered_is opening entries place at word api stage (Some row) e = by_taken (is_taken row word)
   where
-    viewed_is : (row : StageRow) (found : Option DeploymentRow) → viewed place at row found ≡ viewed_by place at (staged_of row) (option_map deployed_of found)
-    viewed_is row None = refl
-    viewed_is row (Some deployment) = refl
+    viewed_is : (canary : Bool) (number : ℕ) (variables : Vars) (found : Option DeploymentRow)
+        → viewed place at canary number variables found ≡ viewed_by place at canary number variables (option_map deployed_of found)
+    viewed_is canary number variables None = refl
+    viewed_is canary number variables (Some deployment) = refl
+
+    by_number : (canary : Bool) (number : ℕ) (variables : Vars)
+        → viewed place at canary number variables (deployment_row (state_of (opened opening) entries).lists row.api number)
+        ≡ viewed_by place at canary number variables (deployment_by opening entries api number)
+    by_number canary number variables =
+        ap (λ a. viewed place at canary number variables (deployment_row (state_of (opened opening) entries).lists a number))
+        (found_named (state_of (opened opening) entries).lists.stages api stage row e)
+        ∙ viewed_is canary number variables (deployment_row (state_of (opened opening) entries).lists api number)
+        ∙ ap (viewed_by place at canary number variables) (deployment_is opening entries api number)
+
+    by_taken : (taken : Bool) → entered_as (state_of (opened opening) entries).lists place at taken row ≡ entered_by_as opening entries place at taken api (staged_of row)
+    by_taken true = by_number true row.canary (merged_in row)
+    by_taken false = by_number false row.deployment (variables_in row.vars)
 
 -- the view of a stage is that of the last commands
 pub views_are : ViewsAreOfTheLastCommands
@@ -380,5 +610,5 @@ unfolding state_after
 views_are opening history moment word api stage kept =
     let place = length history in
     let at = time_of (state_after opening history) moment in
-    entered_is opening (reverse history) place at api stage (stage_row (state_of (opened opening) (reverse history)).lists api stage) refl
-    ∙ ap (entered_by opening (reverse history) place at api) (stage_is opening (reverse history) api stage)
+    entered_is opening (reverse history) place at word api stage (stage_row (state_of (opened opening) (reverse history)).lists api stage) refl
+    ∙ ap (entered_by opening (reverse history) place at word api) (stage_is opening (reverse history) api stage)

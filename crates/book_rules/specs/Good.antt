@@ -1,16 +1,13 @@
 -- The tables that a book starts from: the first row that is refused, by table in the store's order and by key.
-use Rattle.std.specs.Prelude.{ℕ, ◌+◌, ◌*◌, ◌==◌, nat_lt, nat_le, Bool, true, false, not, ◌&&◌, ◌||◌, List, [], ◌∷◌, length, take, drop, position, Option, Some, None, is_ok, is_none, is_some, option_map, if◌then◌else◌}
+use Rattle.std.specs.Prelude.{ℕ, ◌+◌, ◌*◌, ◌==◌, nat_lt, nat_le, Bool, true, false, not, ◌&&◌, ◌||◌, List, [], ◌∷◌, length, Option, Some, None, is_ok, is_none, is_some, if◌then◌else◌}
 use Rattle.std.specs.List.{list_all, list_any}
-use Rattle.std.specs.Option.{option_and_then}
 use Rattle.std.specs.Str.{bytes_eq}
 use Rattle.gw_base.specs.Names.{is_name}
-use Rattle.record_fields.specs.Coding.{parts_of}
 use Rattle.record_fields.specs.Columns.{column_pairs}
 use Rattle.call_facts.specs.Pairs.{Pairs}
 use Rattle.api_model.specs.Definition.{Definition, stated}
 use Rattle.usage_meter.specs.Periods.{number_at}
 use Rattle.usage_meter.specs.declared.period.PeriodKind.{PeriodKind}
-use Rattle.usage_meter.specs.declared.period.PeriodKind.TheVariants.{Day, Week, Month}
 use Rattle.keeper_core.specs.Lists.{Lists, api_row, deployment_row, stage_row, key_row, plan_row}
 use Rattle.keeper_core.specs.declared.table.Table.{Table}
 use Rattle.keeper_core.specs.declared.table.Table.TheVariants as table
@@ -21,36 +18,16 @@ use Rattle.keeper_core.specs.declared.rows.StageRow.{StageRow}
 use Rattle.keeper_core.specs.declared.rows.KeyRow.{KeyRow}
 use Rattle.keeper_core.specs.declared.rows.PlanRow.{PlanRow}
 use Rattle.keeper_core.specs.declared.rows.JoinRow.{JoinRow}
-use Rattle.book_rules.specs.Commands.{most_apis, most_deployments, most_stages, most_variables}
-use Rattle.book_rules.specs.Names.{are_variables}
+use Rattle.usage_plans.specs.Rows.{kind_in}
+use Rattle.usage_plans.specs.declared.terms.TheConstants.{MOST_UNITS}
+use Rattle.book_rules.specs.Limits.{most_apis, most_deployments, most_stages, most_variables, most_keys, most_plans, most_joins, most_plan_stages, most_per_second, most_versions}
+use Rattle.book_rules.specs.Names.{are_variables, is_key_value}
+use Rattle.book_rules.specs.PlanStages.{stages_in, same_stage, stages_differ, stages_of, share_a_stage}
 use Rattle.book_rules.specs.Stored.{definition_of, deployed_of}
 
--- the version of the store, and more limits on its tables
+-- the version of the store
 unfoldable pub store_version : ℕ
 store_version = 1
-
-unfoldable pub most_keys : ℕ
-most_keys = 10000
-
-unfoldable pub most_plans : ℕ
-most_plans = 256
-
-unfoldable pub most_joins : ℕ
-most_joins = 20000
-
-unfoldable pub most_plan_stages : ℕ
-most_plan_stages = 64
-
--- the most of a quota's limit, and of an allowance
-unfoldable pub most_units : ℕ
-most_units = 1000000000000
-
--- the most of a rate, and of a burst
-unfoldable pub most_per_second : ℕ
-most_per_second = 1000000
-
-unfoldable pub most_versions : ℕ
-most_versions = 9223372036854775807
 
 -- the first of the rows that is refused, of rows behind some others, the newest of these first
 abbrev pub first_refused : {R : Type 0} → (List R → R → Bool) → List R → List R → Option ℕ
@@ -111,39 +88,11 @@ takes_stage lists before row =
     nat_lt (length before) most_stages && is_name row.stage && is_deployed lists row.api row.deployment && is_vars_column row.vars
     && takes_canary lists row
 
--- a key's value: 1 to 128 bytes of 33 to 126
-abbrev pub is_key_value : List ℕ → Bool
-is_key_value value = nat_le 1 (length value) && nat_le (length value) 128 && list_all (λ b. nat_le 33 b && nat_le b 126) value
-
 -- KEYS: their values differ
 abbrev pub takes_key : List KeyRow → KeyRow → Bool
 takes_key before row =
     nat_lt (length before) most_keys && is_name row.key && is_key_value row.value && is_flag row.enabled
     && not (list_any (λ (other : KeyRow). bytes_eq other.value row.value) before)
-
--- the stages of a plan: fields API/STAGE, both of which are names, parted by one space
-abbrev pub stage_in : List ℕ → Option (List ℕ × List ℕ)
-stage_in field =
-    option_and_then (λ at. if is_name (take at field) && is_name (drop (at + 1) field) then Some (take at field, drop (at + 1) field) else None)
-    (position (λ b. b == 47) field)
-
-abbrev pub before_each_stage : List ℕ × List ℕ → Option Pairs → Option Pairs
-before_each_stage stage rest = option_map (λ stages. stage ∷ stages) rest
-
-abbrev pub all_stages : List (List ℕ) → Option Pairs
-all_stages [] = Some []
-all_stages (field ∷ fields) = option_and_then (λ stage. before_each_stage stage (all_stages fields)) (stage_in field)
-
-unfoldable pub stages_in : List ℕ → Option Pairs
-stages_in [] = Some []
-stages_in (b ∷ bs) = all_stages (parts_of (b ∷ bs))
-
-abbrev pub same_stage : List ℕ × List ℕ → List ℕ × List ℕ → Bool
-same_stage a b = bytes_eq a.0 b.0 && bytes_eq a.1 b.1
-
-abbrev pub stages_differ : Pairs → Bool
-stages_differ [] = true
-stages_differ (stage ∷ stages) = not (list_any (same_stage stage) stages) && stages_differ stages
 
 abbrev pub are_plan_stages : Lists → Option Pairs → Bool
 are_plan_stages lists None = false
@@ -160,32 +109,25 @@ takes_throttle row =
 abbrev pub takes_plan : Lists → List PlanRow → PlanRow → Bool
 takes_plan lists before row =
     nat_lt (length before) most_plans && is_name row.plan && takes_throttle row && nat_le row.tversion most_versions
-    && nat_le row.qkind 3 && nat_le row.qlimit most_units && nat_le row.qoffset row.qlimit && are_plan_stages lists (stages_in row.stages)
-
--- the kind of a period's column
-abbrev pub kind_of : ℕ → Option PeriodKind
-kind_of n = if n == 1 then Some Day else if n == 2 then Some Week else if n == 3 then Some Month else None
+    && nat_le row.qkind 3 && nat_le row.qlimit MOST_UNITS && nat_le row.qoffset row.qlimit && are_plan_stages lists (stages_in row.stages)
 
 -- a row without a period has had none; the period of a row does not begin behind its moment
 abbrev pub takes_period : JoinRow → Option PeriodKind → Bool
 takes_period row None = (row.pkind == 0) && (row.first == 1) && (row.pnumber == 0) && (row.allowance == 0) && (row.used == 0)
-takes_period row (Some kind) = is_flag row.first && nat_le row.pnumber (number_at kind row.at) && nat_le row.allowance most_units && nat_le row.used row.allowance
+takes_period row (Some kind) = is_flag row.first && nat_le row.pnumber (number_at kind row.at) && nat_le row.allowance MOST_UNITS && nat_le row.used row.allowance
 
 -- a level of this version of the plan's throttle is at most full
 abbrev pub takes_level : JoinRow → PlanRow → Bool
 takes_level row plan = nat_le row.tversion plan.tversion && (not (row.tversion == plan.tversion) || nat_le row.level (1000 * plan.burst))
 
-abbrev pub stages_of : Option PlanRow → Pairs
-stages_of None = []
-stages_of (Some plan) = elim (stages_in plan.stages) [ None ↦ [] | Some stages ↦ stages ]
-
-abbrev pub share_a_stage : Pairs → Pairs → Bool
-share_a_stage stages others = list_any (λ stage. list_any (same_stage stage) others) stages
+abbrev pub stages_by : Option PlanRow → Pairs
+stages_by None = []
+stages_by (Some plan) = stages_of plan
 
 -- a key has at most one plan for a stage
 abbrev pub joined_already : Lists → List JoinRow → JoinRow → Bool
 joined_already lists before row =
-    list_any (λ (other : JoinRow). bytes_eq other.key row.key && share_a_stage (stages_of (plan_row lists row.plan)) (stages_of (plan_row lists other.plan))) before
+    list_any (λ (other : JoinRow). bytes_eq other.key row.key && share_a_stage (stages_by (plan_row lists row.plan)) (stages_by (plan_row lists other.plan))) before
 
 abbrev pub takes_of_plan : JoinRow → Option PlanRow → Bool
 takes_of_plan row None = false
@@ -195,7 +137,7 @@ takes_of_plan row (Some plan) = takes_level row plan
 abbrev pub takes_join : Lists → List JoinRow → JoinRow → Bool
 takes_join lists before row =
     nat_lt (length before) most_joins && is_some (key_row lists row.key) && takes_of_plan row (plan_row lists row.plan)
-    && nat_lt row.at 4102444800000 && takes_period row (kind_of row.pkind) && not (joined_already lists before row)
+    && nat_lt row.at 4102444800000 && takes_period row (kind_in row.pkind) && not (joined_already lists before row)
 
 abbrev pub refused_by : {R : Type 0} → (List R → R → Bool) → List R → Option ℕ
 refused_by takes rows = first_refused (λ before row. not (takes before row)) [] rows

@@ -5,26 +5,34 @@ use Rattle.keeper_core.specs.Keeping.{KeeperFacts, Planned, fails_now, one_more}
 use Rattle.book_rules.specs.Machine.{State, opened, outcome_of, row_of, told, after}
 use Rattle.book_rules.specs.declared.events.Limits.{Limits}
 use Rattle.book_rules.specs.declared.events.Command.{Command}
-use Rattle.book_rules.specs.declared.events.Command.TheVariants.{PutApi, Deploy, PutStage, Shutdown}
+use Rattle.book_rules.specs.declared.events.Command.TheVariants.{PutApi, Deploy, PutStage, PutCanary, PromoteCanary, PutKey, PutPlan, JoinKey, Grant, Usage, Shutdown}
 use Rattle.book_rules.specs.declared.events.Event.{Event}
-use Rattle.book_rules.specs.declared.events.Event.TheVariants.{Enter, Admin, Leave}
+use Rattle.book_rules.specs.declared.events.Event.TheVariants.{Enter, Admit, Admin, Leave}
 use Rattle.book_rules.specs.declared.events.Entry.{Entry}
 use Rattle.book_rules.specs.Times.{IsInTime}
 use Rattle.book_rules.specs.declared.replies.Reply.{Reply}
 
--- what the names and values of some variables sum up to
-abbrev pub variables_size : List (List ℕ × List ℕ) → ℕ
-variables_size pairs = sum_by (λ pair. length pair.0 + length pair.1) pairs
+-- what the two texts of some pairs sum up to
+abbrev pub pairs_size : List (List ℕ × List ℕ) → ℕ
+pairs_size pairs = sum_by (λ pair. length pair.0 + length pair.1) pairs
 
 -- what the texts of an event sum up to
 abbrev pub command_size : Command → ℕ
 command_size (PutApi api definition) = length api + length definition.source
 command_size (Deploy api) = length api
-command_size (PutStage api stage number variables) = length api + length stage + variables_size variables.pairs
+command_size (PutStage api stage number variables) = length api + length stage + pairs_size variables.pairs
+command_size (PutCanary api stage number share variables) = length api + length stage + pairs_size variables.pairs
+command_size (PromoteCanary api stage) = length api + length stage
+command_size (PutKey key value enabled) = length key + length value
+command_size (PutPlan plan throttle quota stages) = length plan + pairs_size stages
+command_size (JoinKey plan key) = length plan + length key
+command_size (Grant plan key amount) = length plan + length key
+command_size (Usage plan key) = length plan + length key
 command_size Shutdown = 0
 
 abbrev pub size : Event → ℕ
 size (Enter moment word api stage) = length api + length stage
+size (Admit moment api stage value) = length api + length stage + length value
 size (Admin moment command) = command_size command
 size (Leave status cause) = 0
 
@@ -69,21 +77,43 @@ reply opening history event kept =
 abbrev pub not_kept : List Entry → ℕ
 not_kept history = sum_by (λ (entry : Entry). if entry.kept then 0 else 1) history
 
--- A change makes two calls of the keeper, the second where the first succeeds; it is kept where both do.
-abbrev pub keeps : Planned → Bool
-keeps plan = not (fails_now plan || fails_now (one_more plan))
+-- An admission and a grant rewrite a row in its place, by one call of the keeper.
+abbrev pub rewrites_by : Command → Bool
+rewrites_by (PutApi api definition) = false
+rewrites_by (Deploy api) = false
+rewrites_by (PutStage api stage number variables) = false
+rewrites_by (PutCanary api stage number share variables) = false
+rewrites_by (PromoteCanary api stage) = false
+rewrites_by (PutKey key value enabled) = false
+rewrites_by (PutPlan plan throttle quota stages) = false
+rewrites_by (JoinKey plan key) = false
+rewrites_by (Grant plan key amount) = true
+rewrites_by (Usage plan key) = false
+rewrites_by Shutdown = false
 
-abbrev pub calls_of_a_change : Planned → Planned
-calls_of_a_change plan = if fails_now plan then one_more plan else one_more (one_more plan)
+abbrev pub rewrites : Event → Bool
+rewrites (Enter moment word api stage) = false
+rewrites (Admit moment api stage value) = true
+rewrites (Admin moment command) = rewrites_by command
+rewrites (Leave status cause) = false
 
-abbrev pub calls_of : Bool → Planned → Planned
-calls_of changing plan = if changing then calls_of_a_change plan else plan
+-- Another change makes two calls, the second where the first succeeds. A change is kept where all of its calls succeed.
+abbrev pub keeps : Bool → Planned → Bool
+keeps true plan = not (fails_now plan)
+keeps false plan = not (fails_now plan || fails_now (one_more plan))
+
+abbrev pub calls_of_a_change : Bool → Planned → Planned
+calls_of_a_change true plan = one_more plan
+calls_of_a_change false plan = if fails_now plan then one_more plan else one_more (one_more plan)
+
+abbrev pub calls_of : Bool → Bool → Planned → Planned
+calls_of rewriting changing plan = if changing then calls_of_a_change rewriting plan else plan
 
 -- the plan of the calls that fail, after some entries, the newest first
 abbrev pub plan_of : Lists → Planned → List Entry → Planned
 plan_of opening plan [] = plan
 plan_of opening plan (newest ∷ older) =
-    calls_of (is_some (row_of (state_of (opened opening) older) newest.event)) (plan_of opening plan older)
+    calls_of (rewrites newest.event) (is_some (row_of (state_of (opened opening) older) newest.event)) (plan_of opening plan older)
 
 unfoldable pub plan_after : Lists → Planned → List Entry → Planned
 plan_after opening plan history = plan_of opening plan (reverse history)
@@ -98,7 +128,7 @@ pub record Base : Type 0 where
 abbrev pub IsAsPlanned : Base → List Entry → Entry → Option Planned → Type 0
 IsAsPlanned base before entry None = Unit {0}
 IsAsPlanned base before entry (Some plan) =
-    is_changing base.opening before entry.event ≡ true → entry.kept ≡ keeps (plan_after base.opening plan before)
+    is_changing base.opening before entry.event ≡ true → entry.kept ≡ keeps (rewrites entry.event) (plan_after base.opening plan before)
 
 -- There was room for the entry, and the reply is the machine's at its place, with a moment before the year 2100; only a changing event
 -- is not kept, and where it is told which calls fail, exactly by these.

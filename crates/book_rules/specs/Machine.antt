@@ -1,19 +1,24 @@
 -- The machine: what an event comes to, and what stands after it.
-use Rattle.std.specs.Prelude.{ℕ, min, max, Bool, true, false, not, ◌&&◌, ◌||◌, List, [], ◌∷◌, Option, Some, None, is_some, if◌then◌else◌}
+use Rattle.std.specs.Prelude.{ℕ, ◌==◌, min, max, Bool, true, false, not, ◌&&◌, ◌||◌, List, [], ◌∷◌, Option, Some, None, is_some, if◌then◌else◌}
 use Rattle.keeper_core.specs.Lists.{Lists, put, stage_row, deployment_row}
 use Rattle.keeper_core.specs.declared.rows.Row.{Row}
 use Rattle.keeper_core.specs.declared.rows.StageRow.{StageRow}
 use Rattle.keeper_core.specs.declared.rows.DeploymentRow.{DeploymentRow}
 use Rattle.keeper_core.specs.declared.rows.JoinRow.{JoinRow}
-use Rattle.book_rules.specs.Commands.{Outcome, says, commanded}
-use Rattle.book_rules.specs.Stored.{deployed_of, variables_in}
+use Rattle.call_facts.specs.declared.vars.Vars.{Vars}
+use Rattle.stage_canary.specs.Canaries.{takes_canary}
+use Rattle.book_rules.specs.Admissions.{admitted}
+use Rattle.book_rules.specs.Commands.{commanded}
+use Rattle.book_rules.specs.Outcomes.{Outcome, says}
+use Rattle.book_rules.specs.Stored.{deployed_of, merged_in, variables_in}
 use Rattle.book_rules.specs.declared.events.Command.{Command}
-use Rattle.book_rules.specs.declared.events.Command.TheVariants.{PutApi, Deploy, PutStage, Shutdown}
+use Rattle.book_rules.specs.declared.events.Command.TheVariants.{PutApi, Deploy, PutStage, PutCanary, PromoteCanary, PutKey, PutPlan, JoinKey, Grant, Usage, Shutdown}
 use Rattle.book_rules.specs.declared.events.Entry.{Entry}
 use Rattle.book_rules.specs.declared.events.Event.{Event}
-use Rattle.book_rules.specs.declared.events.Event.TheVariants.{Enter, Admin, Leave}
+use Rattle.book_rules.specs.declared.events.Event.TheVariants.{Enter, Admit, Admin, Leave}
 use Rattle.book_rules.specs.declared.replies.Reply.{Reply}
-use Rattle.book_rules.specs.declared.replies.Reply.TheVariants.{Entered, NoStage, Store, Left, Done, Deployed, Refused}
+use Rattle.book_rules.specs.declared.replies.Reply.TheVariants.{Entered, NoStage, Admitted, InvalidKey, Throttled, QuotaExceeded, Store, Left, Done, Deployed, Refused}
+use Rattle.book_rules.specs.declared.replies.Reply.TheVariants.{Usage as Used}
 
 -- the tables, the latest moment, and whether a Shutdown was taken
 pub record State : Type 0 where
@@ -40,23 +45,34 @@ time_of state moment = max (min moment last_moment) state.latest
 
 abbrev pub time_at : State → Event → ℕ
 time_at state (Enter moment word api stage) = time_of state moment
+time_at state (Admit moment api stage value) = time_of state moment
 time_at state (Admin moment command) = time_of state moment
 time_at state (Leave status cause) = state.latest
 
--- the view of a stage that points to this deployment
-abbrev pub viewed : ℕ → ℕ → StageRow → Option DeploymentRow → Reply
-viewed place at row None = NoStage
-viewed place at row (Some deployment) =
-    Entered (record { place = place; at = at; deployment = row.deployment; canary = false; api = deployed_of deployment; variables = variables_in row.vars })
+-- a call of this word is taken to the stage's canary, where it has one
+abbrev pub is_taken : StageRow → ℕ → Bool
+is_taken row word = not (row.canary == 0) && takes_canary row.share word
 
-abbrev pub entered : Lists → ℕ → ℕ → Option StageRow → Reply
-entered lists place at None = NoStage
-entered lists place at (Some row) = viewed place at row (deployment_row lists row.api row.deployment)
+-- the view of a stage by this deployment of its API, with these variables
+abbrev pub viewed : ℕ → ℕ → Bool → ℕ → Vars → Option DeploymentRow → Reply
+viewed place at canary number variables None = NoStage
+viewed place at canary number variables (Some deployment) =
+    Entered (record { place = place; at = at; deployment = number; canary = canary; api = deployed_of deployment; variables = variables })
+
+-- by the canary's deployment with the merged variables, or by the stage's own
+abbrev pub entered_as : Lists → ℕ → ℕ → Bool → StageRow → Reply
+entered_as lists place at true row = viewed place at true row.canary (merged_in row) (deployment_row lists row.api row.canary)
+entered_as lists place at false row = viewed place at false row.deployment (variables_in row.vars) (deployment_row lists row.api row.deployment)
+
+abbrev pub entered : Lists → ℕ → ℕ → ℕ → Option StageRow → Reply
+entered lists place at word None = NoStage
+entered lists place at word (Some row) = entered_as lists place at (is_taken row word) row
 
 -- what an event comes to at this place
 abbrev pub outcome_of : State → ℕ → Event → Outcome
-outcome_of state place (Enter moment word api stage) = says (entered state.lists place (time_of state moment) (stage_row state.lists api stage))
-outcome_of state place (Admin moment command) = commanded state.lists command
+outcome_of state place (Enter moment word api stage) = says (entered state.lists place (time_of state moment) word (stage_row state.lists api stage))
+outcome_of state place (Admit moment api stage value) = admitted state.lists (time_of state moment) (api, stage) value
+outcome_of state place (Admin moment command) = commanded state.lists (time_of state moment) command
 outcome_of state place (Leave status cause) = says (Left state.closing)
 
 -- an event that writes a row is changing; what it writes does not depend on its place
@@ -67,10 +83,15 @@ row_of state event = (outcome_of state 0 event).row
 abbrev pub is_entered : Reply → Bool
 is_entered (Entered view) = true
 is_entered NoStage = false
+is_entered (Admitted key plan) = false
+is_entered InvalidKey = false
+is_entered (Throttled level) = false
+is_entered (QuotaExceeded allowance used) = false
 is_entered Store = false
 is_entered (Left closing) = false
 is_entered Done = false
 is_entered (Deployed number) = false
+is_entered (Used usage) = false
 is_entered (Refused refusal) = false
 
 abbrev pub takes_memory : Outcome → Bool
@@ -87,9 +108,17 @@ put_kept (Some row) kept lists = if kept then put row lists else lists
 -- a Shutdown closes the session
 abbrev pub shuts : Event → Bool
 shuts (Enter moment word api stage) = false
+shuts (Admit moment api stage value) = false
 shuts (Admin moment (PutApi api definition)) = false
 shuts (Admin moment (Deploy api)) = false
 shuts (Admin moment (PutStage api stage number variables)) = false
+shuts (Admin moment (PutCanary api stage number share variables)) = false
+shuts (Admin moment (PromoteCanary api stage)) = false
+shuts (Admin moment (PutKey key value enabled)) = false
+shuts (Admin moment (PutPlan plan throttle quota stages)) = false
+shuts (Admin moment (JoinKey plan key)) = false
+shuts (Admin moment (Grant plan key amount)) = false
+shuts (Admin moment (Usage plan key)) = false
 shuts (Admin moment Shutdown) = true
 shuts (Leave status cause) = false
 

@@ -7,6 +7,7 @@ use Rattle.call_facts.specs.declared.vars.Vars.{Vars}
 use Rattle.keeper_core.specs.declared.rows.ApiRow.{ApiRow}
 use Rattle.keeper_core.specs.declared.rows.DeploymentRow.{DeploymentRow}
 use Rattle.keeper_core.specs.declared.rows.StageRow.{StageRow}
+use Rattle.stage_canary.specs.Canaries.{merged_pairs}
 
 -- a definition, by its two columns
 abbrev pub stored : ℕ → List ℕ → Definition
@@ -29,3 +30,7 @@ variables_in text = record { pairs = unwrap_or (column_pairs text) [] }
 -- the column of variables
 abbrev pub column_of : Vars → List ℕ
 column_of variables = column variables.pairs
+
+-- the variables of a stage with those of its canary
+abbrev pub merged_in : StageRow → Vars
+merged_in row = record { pairs = merged_pairs (variables_in row.vars).pairs (variables_in row.canary_vars).pairs }

@@ -1,6 +1,7 @@
 use api_model::Api;
 use call_facts::{Kind, Vars};
-use gw_base::{Shared, Text};
+use gw_base::{Seq, Shared, Text};
+use usage_plans::{Quota, Throttle};
 
 /// The most entries of a history, and the most bytes of its events' texts.
 #[derive(Clone, Copy, Debug, PartialEq, Eq)]
@@ -27,6 +28,48 @@ pub enum Command {
         deployment: u32,
         variables: Shared<Vars>,
     },
+    /// Gives a stage a canary: of its calls so many of ten thousand go to this deployment, with these variables over the stage's.
+    PutCanary {
+        api: Text,
+        stage: Text,
+        deployment: u32,
+        share: u32,
+        variables: Shared<Vars>,
+    },
+    /// Makes the canary's deployment and the merged variables those of its stage, and ends the canary.
+    PromoteCanary {
+        api: Text,
+        stage: Text,
+    },
+    /// Makes an API key, or gives it another value; a key that is not enabled admits nothing.
+    PutKey {
+        key: Text,
+        value: Text,
+        enabled: bool,
+    },
+    /// Makes a usage plan of some stages, each by its API and its name, or puts it anew.
+    PutPlan {
+        plan: Text,
+        throttle: Option<Throttle>,
+        quota: Option<Quota>,
+        stages: Seq<(Text, Text)>,
+    },
+    /// Lets a key call the stages of a plan.
+    JoinKey {
+        plan: Text,
+        key: Text,
+    },
+    /// Allows a key so many more calls in the period that stands.
+    Grant {
+        plan: Text,
+        key: Text,
+        amount: u64,
+    },
+    /// Asks what is allowed and used in the period that stands.
+    Usage {
+        plan: Text,
+        key: Text,
+    },
     /// Closes the session: from here on each answer is the last one on its connection.
     Shutdown,
 }
@@ -39,6 +82,13 @@ pub enum Event {
         word: u64,
         api: Text,
         stage: Text,
+    },
+    /// A request asks to be admitted to a stage by the value of an API key.
+    Admit {
+        moment: u64,
+        api: Text,
+        stage: Text,
+        value: Text,
     },
     /// An administrator asks for a change.
     Admin {
@@ -75,6 +125,32 @@ impl Drop for Command {
                 deployment: _,
                 variables: _,
             } => {}
+            Command::PutCanary {
+                api: _,
+                stage: _,
+                deployment: _,
+                share: _,
+                variables: _,
+            } => {}
+            Command::PromoteCanary { api: _, stage: _ } => {}
+            Command::PutKey {
+                key: _,
+                value: _,
+                enabled: _,
+            } => {}
+            Command::PutPlan {
+                plan: _,
+                throttle: _,
+                quota: _,
+                stages: _,
+            } => {}
+            Command::JoinKey { plan: _, key: _ } => {}
+            Command::Grant {
+                plan: _,
+                key: _,
+                amount: _,
+            } => {}
+            Command::Usage { plan: _, key: _ } => {}
             Command::Shutdown => {}
         }
     }
@@ -88,6 +164,12 @@ impl Drop for Event {
                 word: _,
                 api: _,
                 stage: _,
+            } => {}
+            Event::Admit {
+                moment: _,
+                api: _,
+                stage: _,
+                value: _,
             } => {}
             Event::Admin {
                 moment: _,

@@ -29,4 +29,4 @@ pub mod laws;
 mod replies;
 
 pub use events::{Command, Entry, Event, Limits};
-pub use replies::{Refusal, Reply, View};
+pub use replies::{Refusal, Reply, Usage, View};

@@ -8,7 +8,7 @@ use Rattle.book_core.specs.declared.book.StepFault.TheVariants as step
 use Rattle.book_rules.specs.History.{Base}
 use Rattle.book_rules.specs.declared.events.Entry.{Entry}
 use Rattle.book_rules.specs.declared.events.Event.{Event}
-use Rattle.book_rules.specs.declared.events.Event.TheVariants.{Enter}
+use Rattle.book_rules.specs.declared.events.Event.TheVariants.{Enter, Admit}
 use Rattle.call_facts.specs.declared.kind.Kind.{Kind}
 use Rattle.call_facts.specs.declared.target.Target.{Target}
 use Rattle.gate_serve.specs.declared.called.Called.{Called}
@@ -25,6 +25,8 @@ use Rattle.gw_base.specs.declared.outside.WriteStop.{WriteStop}
 use Rattle.gw_base.specs.declared.outside.WriteStop.TheVariants as stop
 use Rattle.http_framing.specs.declared.fault.EdgeFault.{EdgeFault}
 use Rattle.http_framing.specs.declared.fault.EdgeFault.TheVariants as edge
+use Rattle.method_answers.specs.Calls.{Call as Routed}
+use Rattle.method_answers.specs.Keys.{key_value}
 use Rattle.turn_desk.specs.Calls.{SeatFacts, IsSameSeat, HasItsOwn}
 use Rattle.turn_desk.specs.Entries.{HasNoneFrom}
 
@@ -62,6 +64,9 @@ called_by step.Memory = Memory
 
 abbrev pub enter_at : Message → Target → Event
 enter_at m target = Enter m.moment m.word target.api target.stage
+
+abbrev pub admit_at : Message → Routed → Event
+admit_at m c = Admit m.moment c.target.api c.target.stage (key_value c.request)
 
 -- a list that is told goes on by these
 abbrev pub GoesOnBy : {A : Type 0} → Option (List A) → Option (List A) → List A → Type 0

@@ -60,7 +60,7 @@ fn enter<R: Wait, K: Keeper, B: Backend, T, W, G: Gate>(
         Err(fault) => (seat, refusal(fault), false),
         Ok(reply) => {
             match plan_for(alloc, message.too_large, &reply, &message.request, target) {
-                Ok(plan) => follow(rt, alloc, desk, seat, message, &plan, means),
+                Ok(way) => follow(rt, alloc, desk, seat, message, way, means),
                 Err(_) => (seat, Called::Memory, false),
             }
         }

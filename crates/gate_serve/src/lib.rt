@@ -1,7 +1,8 @@
 //! Connections and lanes over the one book: what a client's bytes come to, whoever else is served meanwhile.
 //!
 //! * [`serve_connection`] serves the messages of one connection, in order. Each enters the book at the stage that its target
-//!   names, is answered by the view that its Enter was replied, and leaves before the first byte of its answer is written.
+//!   names, is answered by the view that its Enter was replied, and leaves before the first byte of its answer is written. One to a
+//!   method that asks for a key asks the book once to admit it, before its checks.
 //! * [`serve_lane`] serves the connections of one lane, one after another, each through [`serve_connection`].
 //!
 //! ```text
@@ -17,6 +18,7 @@
 //! | with bytes that are no message | 400 or 431, `connection: close` | `BadHead`, `BadChunk`, `HeadTooLong` |
 //! | a read of which fails | the answers to the messages in what was taken | `ReadFault` |
 //! | a write of which fails | a front of the last answer | `WriteFault` |
+//! | whose message no key admits | 403 and `INVALID_API_KEY`, 429 and `THROTTLED` or `QUOTA_EXCEEDED`, or 500 and `STORE_FAILURE` | as one that is answered else |
 //! | at whose message the session is full | 503, `connection: close` | `SessionFull` with its numbers |
 //!
 //! | A lane | ends |

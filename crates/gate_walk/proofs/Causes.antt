@@ -7,7 +7,7 @@ use Rattle.admin_routes.specs.Routes.{is_admin, route_in, segments_of}
 use Rattle.admin_routes.specs.declared.routes.Route.{Route}
 use Rattle.book_rules.specs.declared.events.Command.{Command}
 use Rattle.book_rules.specs.declared.replies.Reply.{Reply}
-use Rattle.book_rules.specs.declared.replies.Reply.TheVariants.{Entered, NoStage, Store, Left, Done, Deployed, Refused}
+use Rattle.book_rules.specs.declared.replies.Reply.TheVariants.{Entered, NoStage, Admitted, InvalidKey, Throttled, QuotaExceeded, Store, Left, Done, Deployed, Usage, Refused}
 use Rattle.book_rules.specs.declared.replies.View.{View}
 use Rattle.call_facts.specs.Target.{target_of}
 use Rattle.call_facts.specs.declared.kind.Kind.{Kind}
@@ -18,12 +18,12 @@ use Rattle.gateway_answers.proofs.Causes.{names_one_cause}
 use Rattle.gateway_answers.specs.Answers.{failed_made}
 use Rattle.gateway_answers.specs.Causes.{causes_in}
 use Rattle.method_answers.proofs.Causes.{names_each}
-use Rattle.method_answers.specs.Causes.{Names, NamesEach, names_of}
-use Rattle.method_answers.specs.Plans.{Planned, answered, exchanges, planned}
+use Rattle.method_answers.specs.Causes.{Names, NamesEach, NamesOn, names_of}
+use Rattle.method_answers.specs.Plans.{Planned, Way, admits, answered, exchanges, goes, planned}
 use Rattle.api_model.specs.Definition.{Definition}
 use Rattle.call_facts.specs.declared.facts.CallFacts.{CallFacts}
 use Rattle.gate_walk.specs.Laws.{NamesItsCause}
-use Rattle.gate_walk.specs.Walk.{administered, follows, is_head, leaves, walk, way_to}
+use Rattle.gate_walk.specs.Walk.{administered, admission_of, follows, is_head, leaves, performs, walk, way_to}
 use Rattle.gate_walk.specs.declared.message.Message.{Message}
 use Rattle.gate_walk.proofs.Ways.{Each, each_answer}
 use Rattle.http_edge.specs.Answers.{spelled}
@@ -50,32 +50,42 @@ of_failure : (kind : Kind) (message : List ℕ) (d : Option Definition) (f : Cal
 of_failure kind message d f = names_one_cause kind message d f
 
 -- whatever is answered: at once, or to an outcome
-of_text_api : (r : Result Rendered Stop) → NamesEach (answered (text_made r))
+of_text_api : (r : Result Rendered Stop) → NamesOn (goes (answered (text_made r)))
 of_text_api r = of_text r
 
-at_view : (is_text : Bool) (view : View) (r : Request) (target : Target) → NamesEach (planned_at is_text view r target)
+at_view : (is_text : Bool) (view : View) (r : Request) (target : Target) → NamesOn (planned_at is_text view r target)
 at_view true view r target = of_text_api _
 at_view false view r target = names_each _ _ _ _
 
-by_reply : (reply : Reply) (r : Request) (target : Target) → NamesEach (planned_by reply r target)
+by_reply : (reply : Reply) (r : Request) (target : Target) → NamesOn (planned_by reply r target)
 by_reply (Entered view) r target = at_view view.api.is_text view r target
 by_reply NoStage r target = of_gateway _
+by_reply (Admitted key plan) r target = of_gateway _
+by_reply InvalidKey r target = of_gateway _
+by_reply (Throttled level) r target = of_gateway _
+by_reply (QuotaExceeded allowance used) r target = of_gateway _
 by_reply Store r target = of_gateway _
 by_reply (Left closing) r target = of_gateway _
 by_reply Done r target = of_gateway _
 by_reply (Deployed number) r target = of_gateway _
+by_reply (Usage usage) r target = of_gateway _
 by_reply (Refused refusal) r target = of_gateway _
 
 by_size : (reply : Reply) (target : Target) → Names (too_large_made reply target)
 by_size (Entered view) target = of_failure _ _ _ _
 by_size NoStage target = of_gateway _
+by_size (Admitted key plan) target = of_gateway _
+by_size InvalidKey target = of_gateway _
+by_size (Throttled level) target = of_gateway _
+by_size (QuotaExceeded allowance used) target = of_gateway _
 by_size Store target = of_gateway _
 by_size (Left closing) target = of_gateway _
 by_size Done target = of_gateway _
 by_size (Deployed number) target = of_gateway _
+by_size (Usage usage) target = of_gateway _
 by_size (Refused refusal) target = of_gateway _
 
-for_message : (large : Bool) (reply : Reply) (r : Request) (target : Target) → NamesEach (planned_for large reply r target)
+for_message : (large : Bool) (reply : Reply) (r : Request) (target : Target) → NamesOn (planned_for large reply r target)
 for_message true reply r target = by_size reply target
 for_message false reply r target = by_reply reply r target
 
@@ -106,13 +116,17 @@ on_order : (m : Message) (order : Result Command Made) → IsErrNamed order → 
 on_order m (Ok command) names = λ reply. on_leave m (replied_made reply) (of_json (reply_status reply) _)
 on_order m (Err made) names = on_leave m made names
 
-on_plan : (m : Message) (p : Planned) → NamesEach p → Each (Named m) false (follows m p)
+on_plan : (m : Message) (p : Planned) → NamesEach p → Each (Named m) false (performs m p)
 on_plan m (answered made) names = on_leave m made names
 on_plan m (exchanges request next) names = λ outcome. on_leave m (next outcome) (names outcome)
 
+on_planned : (m : Message) (w : Way) → NamesOn w → Each (Named m) false (follows m w)
+on_planned m (goes plan) names = on_plan m plan names
+on_planned m (admits target value next) names = λ reply. on_plan m (next (admission_of reply)) (names (admission_of reply))
+
 on_target : (admin : Bool) (m : Message) (target : Target) → Each (Named m) false (way_to admin m target)
 on_target true m target = on_order m (order_of m.too_large m.request target) (of_request m.too_large m.request target)
-on_target false m target = λ reply. on_plan m (planned_for m.too_large reply m.request target) (for_message m.too_large reply m.request target)
+on_target false m target = λ reply. on_planned m (planned_for m.too_large reply m.request target) (for_message m.too_large reply m.request target)
 
 on_way : (m : Message) → Each (Named m) false (walk m)
 unfolding walk

@@ -71,12 +71,12 @@ kept_by false kept planned else_kept as_planned = else_kept refl
 
 kept_at : (base : Base) (history : List Entry) (entry : Entry) (planned : Option Planned) → IsSome planned
     → (is_changing base.opening history entry.event ≡ false → entry.kept ≡ true) → IsAsPlanned base history entry planned
-    → entry.kept ≡ (not (is_changing base.opening history entry.event) || is_planned base history planned)
+    → entry.kept ≡ (not (is_changing base.opening history entry.event) || is_planned base history entry.event planned)
 kept_at base history entry None told else_kept as_planned = absurd (none_told told)
   where
     none_told : IsSome {T = Planned} None → ⊥
     none_told h = cc
-kept_at base history entry (Some known) told else_kept as_planned = kept_by (is_changing base.opening history entry.event) entry.kept (is_planned base history (Some known)) else_kept as_planned
+kept_at base history entry (Some known) told else_kept as_planned = kept_by (is_changing base.opening history entry.event) entry.kept (is_planned base history entry.event (Some known)) else_kept as_planned
 
 pub kept_as_told : (base : Base) (history : List Entry) (entry : Entry) (answer : Reply) → IsSome base.start.planned → Answers base history entry answer → entry.kept ≡ is_kept base history entry.event
 kept_as_told base history entry answer told a = kept_at base history entry base.start.planned told a.else_kept a.planned

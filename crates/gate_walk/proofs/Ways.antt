@@ -14,9 +14,9 @@ use Rattle.std.proofs.lemmas.Grind.{common_steps}
 use Rattle.gate_walk.specs.Acts.{Act, took, refused, sent, Goes, sent_by, given_to, leaves_closing, tell_closing}
 use Rattle.gate_walk.specs.Closing.{asks_close, closes, most_messages}
 use Rattle.gate_walk.specs.Planning.{planned_for}
-use Rattle.gate_walk.specs.Walk.{Call, asks, sends, answers, administered, closing_by, follows, leaves, walk, way_to}
+use Rattle.gate_walk.specs.Walk.{Call, asks, sends, answers, administered, admission_of, closing_by, follows, leaves, performs, walk, way_to}
 use Rattle.gate_walk.specs.declared.message.Message.{Message}
-use Rattle.method_answers.specs.Plans.{Planned, answered, exchanges}
+use Rattle.method_answers.specs.Plans.{Planned, Way, admits, answered, exchanges, goes}
 use Rattle.method_flow.specs.declared.answers.Made.{Made}
 
 -- It holds of each answer that a way may come to, with whether a Leave on it was replied that the session is closing.
@@ -70,13 +70,17 @@ order_closes : (m : Message) (order : Result Command Made) → Each (Closes m) f
 order_closes m (Ok command) = λ reply. leaves_closes m (replied_made reply)
 order_closes m (Err made) = leaves_closes m made
 
-plan_closes : (m : Message) (p : Planned) → Each (Closes m) false (follows m p)
+plan_closes : (m : Message) (p : Planned) → Each (Closes m) false (performs m p)
 plan_closes m (answered made) = leaves_closes m made
 plan_closes m (exchanges request next) = λ outcome. leaves_closes m (next outcome)
 
+follows_closes : (m : Message) (w : Way) → Each (Closes m) false (follows m w)
+follows_closes m (goes plan) = plan_closes m plan
+follows_closes m (admits target value next) = λ reply. plan_closes m (next (admission_of reply))
+
 way_closes : (admin : Bool) (m : Message) (target : Target) → Each (Closes m) false (way_to admin m target)
 way_closes true m target = order_closes m (order_of m.too_large m.request target)
-way_closes false m target = λ reply. plan_closes m (planned_for m.too_large reply m.request target)
+way_closes false m target = λ reply. follows_closes m (planned_for m.too_large reply m.request target)
 
 walk_closes : (m : Message) → Each (Closes m) false (walk m)
 unfolding walk

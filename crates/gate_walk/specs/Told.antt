@@ -2,7 +2,7 @@
 use Rattle.std.specs.Prelude.{◌≡◌, ◌≢◌, ℕ, Bool, true, not, ◌||◌, List, [], ◌∷◌, ◌++◌, length, Option, Some, None, IsSome, Result, Ok, Err, if◌then◌else◌}
 use Rattle.backend_core.specs.declared.outcome.Outcome.{Outcome}
 use Rattle.backend_core.specs.declared.request.WireRequest.{WireRequest}
-use Rattle.book_rules.specs.History.{Base, is_changing, is_full, keeps, plan_after, reply, total_size}
+use Rattle.book_rules.specs.History.{Base, is_changing, is_full, keeps, plan_after, reply, rewrites, total_size}
 use Rattle.book_rules.specs.declared.events.Entry.{Entry}
 use Rattle.book_rules.specs.declared.events.Event.{Event}
 use Rattle.book_rules.specs.declared.replies.Reply.{Reply}
@@ -15,13 +15,13 @@ use Rattle.gate_walk.specs.declared.ended.SessionFull.{SessionFull}
 use Rattle.keeper_core.specs.Keeping.{Planned}
 
 -- a change is kept, where the failing calls of the keeper are told, unless one of its calls is among them
-abbrev pub is_planned : Base → List Entry → Option Planned → Bool
-is_planned base history None = true
-is_planned base history (Some plan) = keeps (plan_after base.opening plan history)
+abbrev pub is_planned : Base → List Entry → Event → Option Planned → Bool
+is_planned base history event None = true
+is_planned base history event (Some plan) = keeps (rewrites event) (plan_after base.opening plan history)
 
 -- an event after this history is kept: it changes nothing, or its change is kept
 abbrev pub is_kept : Base → List Entry → Event → Bool
-is_kept base history event = not (is_changing base.opening history event) || is_planned base history base.start.planned
+is_kept base history event = not (is_changing base.opening history event) || is_planned base history event base.start.planned
 
 -- the entry of an event of a seat there, and the reply to it
 abbrev pub entry_at : ℕ → Base → List Entry → Event → Entry

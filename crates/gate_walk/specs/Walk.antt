@@ -8,18 +8,21 @@ use Rattle.backend_core.specs.declared.outcome.Outcome.{Outcome}
 use Rattle.backend_core.specs.declared.request.WireRequest.{WireRequest}
 use Rattle.book_rules.specs.declared.events.Command.{Command}
 use Rattle.book_rules.specs.declared.events.Event.{Event}
-use Rattle.book_rules.specs.declared.events.Event.TheVariants.{Enter, Admin, Leave}
+use Rattle.book_rules.specs.declared.events.Event.TheVariants.{Enter, Admit, Admin, Leave}
 use Rattle.book_rules.specs.declared.replies.Reply.{Reply}
-use Rattle.book_rules.specs.declared.replies.Reply.TheVariants.{Entered, NoStage, Store, Left, Done, Deployed, Refused}
+use Rattle.book_rules.specs.declared.replies.Reply.TheVariants.{Entered, NoStage, Admitted, InvalidKey, Throttled, QuotaExceeded, Store, Left, Done, Deployed, Usage, Refused}
 use Rattle.call_facts.specs.Target.{target_of}
 use Rattle.call_facts.specs.declared.kind.Kind.{Kind}
+use Rattle.call_facts.specs.declared.kind.Kind.TheVariants as kinds
 use Rattle.call_facts.specs.declared.request.Request.{Request}
 use Rattle.call_facts.specs.declared.target.Target.{Target}
 use Rattle.gate_walk.specs.Closing.{closes}
 use Rattle.gate_walk.specs.Planning.{planned_for}
 use Rattle.gate_walk.specs.declared.message.Message.{Message}
 use Rattle.http_edge.specs.Answers.{spelled}
-use Rattle.method_answers.specs.Plans.{Planned, answered as answered_by, exchanges}
+use Rattle.method_answers.specs.Plans.{Planned, Way, admits, answered as answered_by, exchanges, goes}
+use Rattle.method_answers.specs.declared.keys.Admission.{Admission}
+use Rattle.method_answers.specs.declared.keys.Admission.TheVariants as admission
 use Rattle.method_flow.specs.declared.answers.Made.{Made}
 
 -- What comes next: a step of the book, and what its reply leads to; an exchange with a backend, and what its outcome leads to; or
@@ -34,9 +37,14 @@ abbrev pub closing_by : Reply → Bool
 closing_by (Left closing) = closing
 closing_by (Entered view) = false
 closing_by NoStage = false
+closing_by (Admitted key plan) = false
+closing_by InvalidKey = false
+closing_by (Throttled level) = false
+closing_by (QuotaExceeded allowance used) = false
 closing_by Store = false
 closing_by Done = false
 closing_by (Deployed number) = false
+closing_by (Usage usage) = false
 closing_by (Refused refusal) = false
 
 abbrev pub is_head : Request → Bool
@@ -53,10 +61,31 @@ answered m made reply = answers made.cause (spelled made.answer (is_head m.reque
 abbrev pub leaves : Message → Made → Call
 leaves m made = asks (Leave made.answer.status made.cause) (answered m made)
 
--- what is planned is followed: the answer leaves, or a request is sent, and what its outcome is answered leaves
-abbrev pub follows : Message → Planned → Call
-follows m (answered_by made) = leaves m made
-follows m (exchanges request next) = sends request (λ outcome. leaves m (next outcome))
+-- what is planned is done: the answer leaves, or a request is sent, and what its outcome is answered leaves
+abbrev pub performs : Message → Planned → Call
+performs m (answered_by made) = leaves m made
+performs m (exchanges request next) = sends request (λ outcome. leaves m (next outcome))
+
+-- What a reply to an Admit is to the call. The book replies to it by the first five alone; whatever else it replied would admit
+-- nothing, as a change that could not be kept does.
+abbrev pub admission_of : Reply → Admission
+admission_of (Admitted key plan) = admission.Admitted key
+admission_of InvalidKey = admission.Refused kinds.InvalidApiKey
+admission_of (Throttled level) = admission.Refused kinds.Throttled
+admission_of (QuotaExceeded allowance used) = admission.Refused kinds.QuotaExceeded
+admission_of Store = admission.Refused kinds.StoreFailure
+admission_of (Entered view) = admission.Refused kinds.StoreFailure
+admission_of NoStage = admission.Refused kinds.StoreFailure
+admission_of (Left closing) = admission.Refused kinds.StoreFailure
+admission_of Done = admission.Refused kinds.StoreFailure
+admission_of (Deployed number) = admission.Refused kinds.StoreFailure
+admission_of (Usage usage) = admission.Refused kinds.StoreFailure
+admission_of (Refused refusal) = admission.Refused kinds.StoreFailure
+
+-- it goes on, or asks its stage, once, to admit it by the value that it hands in
+abbrev pub follows : Message → Way → Call
+follows m (goes plan) = performs m plan
+follows m (admits target value next) = asks (Admit m.moment target.api target.stage value) (λ reply. performs m (next (admission_of reply)))
 
 -- what follows its Enter
 abbrev pub entered : Message → Target → Reply → Call

@@ -2,7 +2,7 @@
 ghost use Rattle.std.specs.Prelude.{◌≡◌, ◌≢◌, ◌<◌, [], Some, None, Ok, Err, IfOk};
 ghost use Rattle.book_rules.specs.Times.{IsInTime};
 ghost use Rattle.gate_walk.specs.Planning.{facts_of as facts_of_view, planned_at, planned_by, planned_for, too_large_made};
-ghost use Rattle.method_answers.specs.Plans.{answered, plan_of};
+ghost use Rattle.method_answers.specs.Plans.{answered, goes, way_of};
 ghost use Rattle.method_flow.specs.Answers.{text_made, text_over};
 ghost use Rattle.vtl_grammar.specs.Templates.{tree_of};
 
@@ -10,7 +10,7 @@ use book_rules::{Reply, View};
 use call_facts::{CallFacts, Kind, Request, Target};
 use gateway_answers::fail_by;
 use gw_base::{Memory, Text};
-use method_answers::{Plan, plan_method};
+use method_answers::{Plan, Way, plan_method};
 use method_flow::{Made, answer_itself, answer_text};
 use std::alloc::Global;
 use vtl_reader::Template;
@@ -34,6 +34,13 @@ fn facts_of(alloc: Global, target: &Target, view: &View) -> Result<CallFacts, Me
     })
 }
 
+// This answer, whoever calls.
+fn answers<'a>(made: Made) -> Way<'a>
+    ensures { way_of result ≡ goes (answered made) }
+{
+    Way::Goes(Plan::Answered(made))
+}
+
 // A text API answers with its template.
 fn plan_text<'a>(
     alloc: Global,
@@ -41,11 +48,11 @@ fn plan_text<'a>(
     request: &Request,
     target: &Target,
     facts: &CallFacts,
-) -> Result<Plan<'a>, Memory>
+) -> Result<Way<'a>, Memory>
     requires { facts.now.at < 4102444800000 }
-    ensures { IfOk result (λ plan. plan_of plan ≡ answered (text_made (text_over request.now target.now facts.now (tree_of template.now)))) }
+    ensures { IfOk result (λ way. way_of way ≡ goes (answered (text_made (text_over request.now target.now facts.now (tree_of template.now))))) }
 {
-    Ok(Plan::Answered(answer_text(alloc, template, request, target, facts)?))
+    Ok(answers(answer_text(alloc, template, request, target, facts)?))
 }
 
 // Under a stage that has this view.
@@ -54,9 +61,9 @@ fn plan_at<'a>(
     view: &'a View,
     request: &'a Request,
     target: &'a Target,
-) -> Result<Plan<'a>, Memory>
+) -> Result<Way<'a>, Memory>
     requires { view.now.at < 4102444800000 }
-    ensures { IfOk result (λ plan. plan_of plan ≡ planned_at view.now.api.is_text view.now request.now target.now) }
+    ensures { IfOk result (λ way. way_of way ≡ planned_at view.now.api.is_text view.now request.now target.now) }
 {
     let facts = facts_of(alloc, target, view)?;
     let api = view.api.value();
@@ -72,13 +79,13 @@ fn plan_by<'a>(
     reply: &'a Reply,
     request: &'a Request,
     target: &'a Target,
-) -> Result<Plan<'a>, Memory>
+) -> Result<Way<'a>, Memory>
     requires { IsInTime reply.now }
-    ensures { IfOk result (λ plan. plan_of plan ≡ planned_by reply.now request.now target.now) }
+    ensures { IfOk result (λ way. way_of way ≡ planned_by reply.now request.now target.now) }
 {
     match reply {
         Reply::Entered(view) => plan_at(alloc, view, request, target),
-        _ => Ok(Plan::Answered(answer_itself(alloc, Kind::UnknownStage)?)),
+        _ => Ok(answers(answer_itself(alloc, Kind::UnknownStage)?)),
     }
 }
 
@@ -97,8 +104,8 @@ fn refuse_size(alloc: Global, reply: &Reply, target: &Target) -> Result<Made, Me
     }
 }
 
-/// What a message comes to whose Enter was replied so: an answer, or an exchange with a backend. The size of its body is tested
-/// before its stage.
+/// What a message comes to whose Enter was replied so: an answer, an exchange with a backend, or what its admission leads to. The
+/// size of its body is tested before its stage.
 ///
 /// # Errors
 ///
@@ -109,12 +116,12 @@ pub fn plan_for<'a>(
     reply: &'a Reply,
     request: &'a Request,
     target: &'a Target,
-) -> Result<Plan<'a>, Memory>
+) -> Result<Way<'a>, Memory>
     requires { IsInTime reply.now }
-    ensures { IfOk result (λ plan. plan_of plan ≡ planned_for too_large reply.now request.now target.now) }
+    ensures { IfOk result (λ way. way_of way ≡ planned_for too_large reply.now request.now target.now) }
 {
     if too_large {
-        Ok(Plan::Answered(refuse_size(alloc, reply, target)?))
+        Ok(answers(refuse_size(alloc, reply, target)?))
     } else {
         plan_by(alloc, reply, request, target)
     }

@@ -19,7 +19,7 @@ use Rattle.play_session.specs.Sessions.{base_of}
 use Rattle.play_script.specs.Records.{record_in}
 use Rattle.play_script.specs.declared.records.LineFault.{LineFault}
 use Rattle.play_script.specs.declared.records.Record.{Record}
-use Rattle.play_script.specs.declared.records.Record.TheVariants.{PutText, PutDocument, Deploy, PutStage, Shutdown, Post, Call}
+use Rattle.play_script.specs.declared.records.Record.TheVariants.{PutText, PutDocument, Ask, Post, Call}
 use Rattle.play_script.specs.declared.turns.End.{End}
 
 -- outcomes
@@ -119,9 +119,7 @@ module _ (law : ComesToOneThing) (base : Base) (told : IsSome base.start.planned
   does_once : (number : ℕ) (history : List Entry) (found : Record) (a b : Turn) → Does base number history found a → Does base number history found b → a ≡ b
   does_once number history (PutText moment api template) a b x y = x ∙ sym y
   does_once number history (PutDocument moment api source) a b x y = x ∙ sym y
-  does_once number history (Deploy moment api) a b x y = x ∙ sym y
-  does_once number history (PutStage moment api stage deployment variables) a b x y = x ∙ sym y
-  does_once number history (Shutdown moment) a b x y = x ∙ sym y
+  does_once number history (Ask moment asked) a b x y = x ∙ sym y
   does_once number history (Post moment word api stage body) a b x y = talk_once history moment word _ [] a b x y
   does_once number history (Call moment word bytes fields) a b (inl x) (inl y) =
       talk_once history moment word bytes y.0 a b (subst (λ script. IsTalk base history moment word bytes script a) (all_once fields x.0 y.0 x.1 y.1) x.2) y.2

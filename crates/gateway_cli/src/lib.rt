@@ -29,6 +29,8 @@
 //! | `admin` of a store, with these lines on the input | prints |
 //! |---|---|
 //! | `text 0 hello Hi!`, `deploy 0 hello` | `done`, `deployed 1` |
+//! | `key 0 k v on`, `plan 0 p - 5:0:DAY`, `join 0 p k` | `done` for each |
+//! | `usage 0 p k` behind them | `usage period=DAY:0 allowance=5 used=0 remaining=5` |
 //! | `post 0 0 hello v1 Ann` | `refused line 1 BadRecord at ~`, with status 1 |
 //! | of a store that can't be opened | `fault keeper`, with status 3 |
 //!

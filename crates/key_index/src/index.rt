@@ -48,8 +48,8 @@ impl KeyIndex {
         self.names.get(value)
     }
 
-    // Gives the value to the key.
-    fn enter(&mut self, alloc: Global, value: &str, key: &str) -> Result<(), Memory>
+    /// Gives the value to the key, beside the value that the key has. Where memory is wanting, nothing changes.
+    pub fn enter(&mut self, alloc: Global, value: &str, key: &str) -> Result<(), Memory>
         ensures entered { OnOk result ((v : List ℕ) → key_in self.new v ≡ update bytes_eq (key_in self.old) value.now (Some key.now) v) }
         ensures refused { OnErr result ((v : List ℕ) → key_in self.new v ≡ key_in self.old v) }
     {
@@ -59,8 +59,8 @@ impl KeyIndex {
         Ok(())
     }
 
-    // Takes the value from whichever key has it.
-    fn leave(&mut self, value: &str)
+    /// Takes the value from whichever key has it. It takes no memory.
+    pub fn leave(&mut self, value: &str)
         ensures { (v : List ℕ) → key_in self.new v ≡ update bytes_eq (key_in self.old) value.now None v }
     {
         let _ = self.names.remove(value);

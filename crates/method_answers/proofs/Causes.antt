@@ -19,9 +19,12 @@ use Rattle.integration_request.specs.Requests.{wire_of}
 use Rattle.integration_request.specs.declared.made.Prepared.{Prepared}
 use Rattle.integration_request.specs.declared.made.Prepared.TheVariants.{Mock, Wire, Proxy}
 use Rattle.method_answers.specs.Calls.{Call}
-use Rattle.method_answers.specs.Causes.{Names, NamesEach, NamesItsCause}
+use Rattle.method_answers.specs.Causes.{Names, NamesEach, NamesOn, NamesItsCause}
+use Rattle.method_answers.specs.Keys.{key_required}
 use Rattle.method_answers.specs.Outcomes.{answered_by, mapped_made, outcome_made, reply_made, ruled}
-use Rattle.method_answers.specs.Plans.{Planned, answered, call_at, checked, exchanges, integrated, planned, prepared, routed}
+use Rattle.method_answers.specs.Plans.{Planned, admitted, answered, call_at, checked, exchanges, integrated, keyed, planned, prepared, routed, validated, with_key}
+use Rattle.method_answers.specs.declared.keys.Admission.{Admission}
+use Rattle.method_answers.specs.declared.keys.Admission.TheVariants.{Admitted, Refused}
 use Rattle.method_answers.proofs.Free.{NamesNone, client_names_none, proxied_names_none}
 use Rattle.method_checks.specs.Routing.{route_of}
 use Rattle.method_checks.specs.Validating.{failed_check}
@@ -63,9 +66,20 @@ of_check : (c : Call) (failed : Option (Kind × List ℕ)) → NamesEach (checke
 of_check c (Some failed) = of_failure _ _ _ _
 of_check c None = of_prepared c (wire_of c.definition c.method c.request c.target c.found c.facts)
 
-of_found : (d : Definition) (r : Request) (t : Target) (f : CallFacts) (route : Route) → NamesEach (routed d r t f route)
+of_checks : (c : Call) → NamesEach (validated c)
+of_checks c = of_check c (failed_check c.definition c.method c.request c.target c.found)
+
+of_admission : (c : Call) (a : Admission) → NamesEach (admitted c a)
+of_admission c (Admitted key) = of_checks (with_key c key)
+of_admission c (Refused kind) = of_failure _ _ _ _
+
+of_keyed : (b : Bool) (c : Call) → NamesOn (keyed b c)
+of_keyed true c = of_admission c
+of_keyed false c = of_checks c
+
+of_found : (d : Definition) (r : Request) (t : Target) (f : CallFacts) (route : Route) → NamesOn (routed d r t f route)
 of_found d r t f TextApi = of_failure _ _ _ _
-of_found d r t f (Hit found method) = of_check (call_at d r t f found method) (failed_check d method r t found)
+of_found d r t f (Hit found method) = of_keyed (key_required d method) (call_at d r t f found method)
 of_found d r t f Missing = of_failure _ _ _ _
 
 pub names_each : NamesItsCause

@@ -8,7 +8,8 @@ use Rattle.call_facts.specs.declared.kind.Kind.{Kind}
 use Rattle.call_facts.specs.declared.request.Request.{Request}
 use Rattle.call_facts.specs.declared.target.Target.{Target}
 use Rattle.gateway_answers.specs.Causes.{causes_in}
-use Rattle.method_answers.specs.Plans.{Planned, answered, exchanges, planned}
+use Rattle.method_answers.specs.Plans.{Planned, Way, admits, answered, exchanges, goes, planned}
+use Rattle.method_answers.specs.declared.keys.Admission.{Admission}
 use Rattle.method_flow.specs.declared.answers.Made.{Made}
 
 abbrev pub names_of : Option Kind → List (List ℕ)
@@ -24,6 +25,11 @@ abbrev pub NamesEach : Planned → Type 0
 NamesEach (answered made) = Names made
 NamesEach (exchanges request next) = (outcome : Outcome) → Names (next outcome)
 
+-- and each that a way leads to, whatever its admission
+abbrev pub NamesOn : Way → Type 0
+NamesOn (goes plan) = NamesEach plan
+NamesOn (admits target value next) = (a : Admission) → NamesEach (next a)
+
 -- and whatever a request to an API that is a document comes to
 abbrev pub NamesItsCause : Type 0
-NamesItsCause = (d : Definition) (r : Request) (t : Target) (f : CallFacts) → NamesEach (planned d r t f)
+NamesItsCause = (d : Definition) (r : Request) (t : Target) (f : CallFacts) → NamesOn (planned d r t f)

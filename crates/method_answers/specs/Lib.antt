@@ -4,7 +4,11 @@ pub mod Calls
 pub mod Failing
 -- what the outcome of an exchange is answered
 pub mod Outcomes
+-- methods that ask for a key
+pub mod Keys
 -- what a request to an API that is a document comes to
 pub mod Plans
 -- the causes that answers name
 pub mod Causes
+-- what tells of an admission, and where one is asked for
+pub mod Admitting

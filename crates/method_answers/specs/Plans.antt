@@ -1,5 +1,5 @@
 -- What a request to an API that is a document comes to.
-use Rattle.std.specs.Prelude.{ℕ, List, [], slice_get, true, false, Option, Some, None, Ok, Err}
+use Rattle.std.specs.Prelude.{ℕ, Bool, true, false, List, [], slice_get, Option, Some, None, Ok, Err}
 use Rattle.std.specs.Option.{option_map, unwrap_or}
 use Rattle.api_model.specs.Definition.{Definition, parts_of}
 use Rattle.api_resources.specs.Resources.{path_of}
@@ -18,9 +18,14 @@ use Rattle.integration_request.specs.declared.made.Prepared.{Prepared}
 use Rattle.integration_request.specs.declared.made.Prepared.TheVariants.{Mock, Wire, Proxy}
 use Rattle.method_answers.specs.Calls.{Call}
 use Rattle.method_answers.specs.Failing.{failed_by}
+use Rattle.method_answers.specs.Keys.{key_required, key_value}
 use Rattle.method_answers.specs.Outcomes.{mapped_made, outcome_made, stopped}
+use Rattle.method_answers.specs.declared.keys.Admission.{Admission}
+use Rattle.method_answers.specs.declared.keys.Admission.TheVariants.{Admitted, Refused}
 use Rattle.method_answers.specs.declared.plans.Plan.{Plan}
 use Rattle.method_answers.specs.declared.plans.Plan.TheVariants.{Answered, Asks}
+use Rattle.method_answers.specs.declared.plans.Way.{Way as Planning}
+use Rattle.method_answers.specs.declared.plans.Way.TheVariants.{Goes, Admits}
 use Rattle.method_checks.specs.Routing.{route_of}
 use Rattle.method_checks.specs.Validating.{failed_check}
 use Rattle.method_checks.specs.declared.routes.Route.{Route}
@@ -32,6 +37,11 @@ use Rattle.resource_tree.specs.declared.found.Found.{Found}
 pub data Planned : Type 0 where
   answered : Made → Planned
   exchanges : WireRequest → (Outcome → Made) → Planned
+
+-- what is planned; or the stage that is to admit the call by the value that it hands in, and what each admission leads to
+pub data Way : Type 0 where
+  goes : Planned → Way
+  admits : Target → List ℕ → (Admission → Planned) → Way
 
 -- what is known of a call behind its route: the resource's path too, as the document has it
 abbrev pub at_resource : Definition → CallFacts → ℕ → CallFacts
@@ -55,17 +65,40 @@ checked c None = integrated c
 abbrev pub call_at : Definition → Request → Target → CallFacts → Found → ℕ → Call
 call_at d r t f found method = record { definition = d; method = method; request = r; target = t; found = found; facts = at_resource d f found.resource }
 
--- behind the route: where it hits a method, that method's checks are made
-abbrev pub routed : Definition → Request → Target → CallFacts → Route → Planned
-routed d r t f Missing = answered (failed_by MissingAuthenticationToken d f)
-routed d r t f (Hit found method) = checked (call_at d r t f found method) (failed_check d method r t found)
-routed d r t f TextApi = answered (failed_by ApiConfigurationError d f)
+-- the method's checks are made
+abbrev pub validated : Call → Planned
+validated c = checked c (failed_check c.definition c.method c.request c.target c.found)
 
--- what a request comes to: the first of the route, the parameters and the body that fails is answered, else the method's integration
-unfoldable pub planned : Definition → Request → Target → CallFacts → Planned
+abbrev pub with_key : Call → List ℕ → Call
+with_key c key = record { definition = c.definition; method = c.method; request = c.request; target = c.target; found = c.found; facts = record c.facts { key = Some key } }
+
+-- a call that a key admits goes on, and the key is known of it; one that none admits is answered with the kind that tells why
+abbrev pub admitted : Call → Admission → Planned
+admitted c (Admitted key) = validated (with_key c key)
+admitted c (Refused kind) = answered (failed_by kind c.definition c.facts)
+
+-- before the checks: where the method asks for a key, the call must be admitted
+abbrev pub keyed : Bool → Call → Way
+keyed true c = admits c.target (key_value c.request) (admitted c)
+keyed false c = goes (validated c)
+
+-- behind the route, where it hits a method
+abbrev pub routed : Definition → Request → Target → CallFacts → Route → Way
+routed d r t f Missing = goes (answered (failed_by MissingAuthenticationToken d f))
+routed d r t f (Hit found method) = keyed (key_required d method) (call_at d r t f found method)
+routed d r t f TextApi = goes (answered (failed_by ApiConfigurationError d f))
+
+-- what a request comes to: the first of the route, the key, the parameters and the body that fails is answered, else the method's
+-- integration
+unfoldable pub planned : Definition → Request → Target → CallFacts → Way
 planned d r t f = routed d r t f (route_of d r t)
 
 -- what a plan is
 abbrev pub plan_of : Plan → Planned
 plan_of (Answered made) = answered made
 plan_of (Asks exchange) = exchanges exchange.request (outcome_made exchange.passes exchange.call)
+
+-- what a way is
+abbrev pub way_of : Planning → Way
+way_of (Goes plan) = goes (plan_of plan)
+way_of (Admits keyed) = admits keyed.call.target (key_value keyed.call.request) (admitted keyed.call)

@@ -1,8 +1,10 @@
 // A call behind its route.
 ghost use Rattle.std.specs.Prelude.{◌≡◌};
+ghost use Rattle.method_answers.specs.Plans.{with_key as with_key_of};
 
 use api_model::Api;
 use call_facts::{CallFacts, Request, Target};
+use gw_base::Name;
 use resource_tree::Found;
 use std::marker::Model;
 
@@ -35,5 +37,28 @@ impl<'a> RoutedCall<'a> {
         ensures { result ≡ self.now.facts.place }
     {
         self.facts.place
+    }
+
+    /// The same call, of which it is known that this key admitted it.
+    pub(crate) fn with_key(self, key: Name) -> Self
+        ensures { result ≡ with_key_of self.entry key }
+    {
+        let RoutedCall {
+            api,
+            method,
+            request,
+            target,
+            found,
+            mut facts,
+        } = self;
+        facts.key = Some(key);
+        RoutedCall {
+            api,
+            method,
+            request,
+            target,
+            found,
+            facts,
+        }
     }
 }

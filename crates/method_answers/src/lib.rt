@@ -1,8 +1,15 @@
-//! What a call of an API that is a document comes to: its route, its parameters and its body are looked at in turn, and the first
-//! that fails is answered by the gateway itself; behind them its method's integration answers, or asks a backend.
+//! What a call of an API that is a document comes to: its route, its key, its parameters and its body are looked at in turn, and
+//! the first that fails is answered by the gateway itself; behind them its method's integration answers, or asks a backend.
 //!
 //! ```text
-//! match plan_method(alloc, &api, &request, &target, facts)? {
+//! let plan = match plan_method(alloc, &api, &request, &target, facts)? {
+//!     Way::Goes(plan) => plan,
+//!     Way::Admits(keyed) => {
+//!         let admission = ask(keyed.target(), keyed.value(alloc)?);   // Admission::Admitted(key), or Refused(Kind::Throttled)
+//!         keyed.admitted(alloc, admission)?                           // else 429, x-gateway-cause: THROTTLED
+//!     }
+//! };
+//! match plan {
 //!     Plan::Answered(made) => ..                          // 400, x-gateway-cause: BAD_REQUEST_PARAMETERS
 //!     Plan::Asks(exchange) => {
 //!         let outcome = backend.exchange(alloc, &exchange.request);
@@ -14,6 +21,9 @@
 //! | Call | Comes to, where the API has no rules |
 //! |---|---|
 //! | of a path that no resource has, or of a verb that the resource has not | 403, `MISSING_AUTHENTICATION_TOKEN` |
+//! | of a method with `"apiKeyRequired":true` | an admission, by the value of its header `x-api-key`, before its checks |
+//! | that an admission refuses as `Kind::InvalidApiKey`, `Throttled`, `QuotaExceeded`, `StoreFailure` | 403, 429, 429, 500, of that kind |
+//! | that is admitted | as one of a method that asks for no key; `$context.identity.apiKeyId` is the key |
 //! | that lacks the required `shop` and `X-A`, whatever its body | 400, `BAD_REQUEST_PARAMETERS`, `Missing required request parameters: [shop, X-A]` |
 //! | whose body its model refuses | 400, `BAD_REQUEST_BODY`, `Invalid request body` |
 //! | of a `MOCK` whose prepared body tells 404 | the answer of the response rule for 404 |
@@ -32,17 +42,20 @@
 //!
 //! What is promised, for every definition, request, target and all facts: [`plan_method`] is `planned` of `specs/Plans.antt`, and
 //! [`Exchange::answer`] is `outcome_made` of `specs/Outcomes.antt`. Want of memory alone has no cause. As a law ([`laws`]), each of
-//! these answers names the one cause that it has, and one without a cause names none, whatever a backend replied. Left out:
-//! authorizers and keys.
+//! these answers names the one cause that it has, and one without a cause names none, whatever a backend replied; the kinds of a
+//! refused admission come of one alone; and an admission is asked for exactly where the method asks for a key. Left out:
+//! authorizers, and what decides an admission.
 #![tactic(auto)]
 
 mod calls;
 mod failing;
+mod keys;
 pub mod laws;
 mod outcomes;
 mod planning;
 mod plans;
 
 pub use calls::RoutedCall;
+pub use keys::{Admission, Keyed};
 pub use planning::plan_method;
-pub use plans::{Exchange, Plan};
+pub use plans::{Exchange, Plan, Way};

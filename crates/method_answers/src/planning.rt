@@ -3,12 +3,14 @@ ghost use Rattle.std.specs.Prelude.{◌≡◌, ◌<◌, length, IfOk, Ok, Err};
 ghost use Rattle.api_model.specs.Definition.{parts_of};
 ghost use Rattle.integration_flow.specs.Stopping.{Flows};
 ghost use Rattle.integration_request.specs.Requests.{HasStatus, wire_of};
-ghost use Rattle.method_answers.specs.Plans.{answered, at_resource as at_resource_of, checked, integrated, plan_of, planned};
+ghost use Rattle.method_answers.specs.Plans.{at_resource as at_resource_of, checked, integrated, keyed, plan_of, planned, validated, way_of};
+ghost use Rattle.method_answers.specs.Keys.{key_required};
 
 use crate::calls::RoutedCall;
 use crate::failing::failed_by;
+use crate::keys::Keyed;
 use crate::outcomes::{answer_mapped, answer_stopped};
-use crate::plans::{Exchange, Plan};
+use crate::plans::{Exchange, Plan, Way};
 use api_model::Api;
 use backend_core::WireRequest;
 use call_facts::{CallFacts, Kind, Request, Target};
@@ -94,9 +96,36 @@ fn plan_checked<'a>(
     }
 }
 
-/// What a request for an API that is a document comes to: the first of its route, its parameters and its body that fails is
-/// answered (API Gateway Developer Guide, "Request validation" and "Gateway responses"), and behind these checks its method's
-/// integration answers it, or asks a backend. The call's moment is before the year 2100.
+/// Makes the checks of a call that may come to its method.
+pub(crate) fn plan_validated<'a>(alloc: Global, call: RoutedCall<'a>) -> Result<Plan<'a>, Memory>
+    ensures { IfOk result (λ plan. plan_of plan ≡ validated call.entry) }
+{
+    let failed = validate(
+        alloc,
+        call.api,
+        call.method,
+        call.request,
+        call.target,
+        &call.found,
+    )?;
+    plan_checked(alloc, call, failed)
+}
+
+// Before the checks: where the method asks for a key, the call must be admitted.
+fn plan_keyed<'a>(alloc: Global, call: RoutedCall<'a>) -> Result<Way<'a>, Memory>
+    ensures { IfOk result (λ way. way_of way ≡ keyed (key_required call.entry.definition call.entry.method) call.entry) }
+{
+    if call.api.api_key_required(call.method) {
+        Ok(Way::Admits(Keyed { call }))
+    } else {
+        Ok(Way::Goes(plan_validated(alloc, call)?))
+    }
+}
+
+/// What a request for an API that is a document comes to: the first of its route, its key, its parameters and its body that fails
+/// is answered (API Gateway Developer Guide, "API keys", "Request validation" and "Gateway responses"), and behind these checks its
+/// method's integration answers it, or asks a backend. Where the method asks for a key, an admission decides. The call's moment is
+/// before the year 2100.
 ///
 /// # Errors
 ///
@@ -108,26 +137,27 @@ pub fn plan_method<'a>(
     request: &'a Request,
     target: &'a Target,
     facts: CallFacts,
-) -> Result<Plan<'a>, Memory>
+) -> Result<Way<'a>, Memory>
     requires { facts.at < 4102444800000 }
-    ensures { IfOk result (λ plan. plan_of plan ≡ planned api.now request.now target.now facts) }
+    ensures { IfOk result (λ way. way_of way ≡ planned api.now request.now target.now facts) }
 {
     let kind = match route(alloc, api, request, target)? {
         Route::Hit(found, method) => {
             let facts = at_resource(alloc, api, facts, found.resource)?;
-            let failed = validate(alloc, api, method, request, target, &found)?;
-            let call = RoutedCall {
-                api,
-                method,
-                request,
-                target,
-                found,
-                facts,
-            };
-            return plan_checked(alloc, call, failed);
+            return plan_keyed(
+                alloc,
+                RoutedCall {
+                    api,
+                    method,
+                    request,
+                    target,
+                    found,
+                    facts,
+                },
+            );
         }
         Route::Missing => Kind::MissingAuthenticationToken,
         Route::TextApi => Kind::ApiConfigurationError,
     };
-    Ok(Plan::Answered(failed_by(alloc, kind, api, &facts)?))
+    Ok(Way::Goes(Plan::Answered(failed_by(alloc, kind, api, &facts)?)))
 }

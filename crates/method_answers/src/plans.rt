@@ -1,5 +1,6 @@
 // What a request comes to.
 use crate::calls::RoutedCall;
+use crate::keys::Keyed;
 use backend_core::WireRequest;
 use method_flow::Made;
 
@@ -14,11 +15,20 @@ pub struct Exchange<'a> {
     pub call: RoutedCall<'a>,
 }
 
-/// What a request comes to.
+/// What a call that goes on comes to.
 #[derive(Drop)]
 pub enum Plan<'a> {
     /// This answer.
     Answered(Made),
     /// An exchange, whose outcome tells the answer.
     Asks(Exchange<'a>),
+}
+
+/// What a request comes to.
+#[derive(Drop)]
+pub enum Way<'a> {
+    /// This, whoever calls.
+    Goes(Plan<'a>),
+    /// What its admission leads to.
+    Admits(Keyed<'a>),
 }

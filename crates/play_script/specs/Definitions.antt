@@ -1,5 +1,5 @@
 -- The definitions that a script puts.
-use Rattle.std.specs.Prelude.{Bool, ◌||◌, List, is_some, if◌then◌else◌, Result, Ok, Err}
+use Rattle.std.specs.Prelude.{Bool, List, is_some, if◌then◌else◌, Result, Ok, Err}
 use Rattle.std.specs.List.{list_any}
 use Rattle.api_model.specs.Definition.{Definition, parts_of, stated}
 use Rattle.api_model.specs.Document.{Parts}
@@ -10,9 +10,9 @@ use Rattle.api_parts.specs.declared.parts.TokenAuthorizer.{TokenAuthorizer}
 use Rattle.play_script.specs.declared.records.LineFault.{LineFault}
 use Rattle.play_script.specs.declared.records.LineFault.TheVariants as fault
 
--- a method asks for a key, or has an authorizer: neither is built yet
+-- a method has an authorizer, which is not built
 abbrev pub is_unbuilt : List TokenAuthorizer → Method → Bool
-is_unbuilt authorizers method = method.api_key_required || is_some (numbered authorizers method.authorizer)
+is_unbuilt authorizers method = is_some (numbered authorizers method.authorizer)
 
 -- a definition has such a method
 unfoldable pub needs_unbuilt : Definition → Bool

@@ -20,7 +20,7 @@ use Rattle.play_script.specs.Definitions.{Taken, taken as taken_of}
 use Rattle.play_script.specs.Printed.{line_feed, reply_line, refused_line, full_line}
 use Rattle.play_script.specs.Records.{fails_in, record_in}
 use Rattle.play_script.specs.declared.records.Record.{Record}
-use Rattle.play_script.specs.declared.records.Record.TheVariants.{PutText, PutDocument, Deploy, PutStage, Shutdown, Post, Call}
+use Rattle.play_script.specs.declared.records.Record.TheVariants.{PutText, PutDocument, Ask, Post, Call}
 use Rattle.play_script.specs.declared.records.LineFault.{LineFault}
 use Rattle.play_script.specs.declared.records.LineFault.TheVariants.{BadRecord}
 use Rattle.play_script.specs.declared.turns.End.{End}
@@ -67,10 +67,7 @@ IsCall base number history moment word bytes fields now =
 abbrev pub Does : Base → ℕ → List Entry → Record → Turn → Type 0
 Does base number history (PutText moment api template) now = now ≡ put base number history moment api (taken_of (text template))
 Does base number history (PutDocument moment api source) now = now ≡ put base number history moment api (taken_of (document source))
-Does base number history (Deploy moment api) now = now ≡ commanded base history moment (command.Deploy api)
-Does base number history (PutStage moment api stage deployment variables) now =
-    now ≡ commanded base history moment (command.PutStage api stage deployment (record { pairs = variables }))
-Does base number history (Shutdown moment) now = now ≡ commanded base history moment command.Shutdown
+Does base number history (Ask moment asked) now = now ≡ commanded base history moment asked
 Does base number history (Post moment word api stage body) now = IsTalk base history moment word (post_bytes api stage body) [] now
 Does base number history (Call moment word bytes outcomes) now = IsCall base number history moment word bytes outcomes now
 

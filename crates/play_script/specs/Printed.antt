@@ -3,9 +3,9 @@ use Rattle.std.specs.Prelude.{ℕ, List, [], ◌∷◌, codes}
 use Rattle.std.specs.Fmt.{decimal}
 use Rattle.std.specs.List.{concat}
 use Rattle.admin_routes.specs.Asked.{fault_line}
-use Rattle.book_rules.specs.Printed.{refusal_name}
+use Rattle.book_rules.specs.Printed.{refusal_name, usage_text}
 use Rattle.book_rules.specs.declared.replies.Reply.{Reply}
-use Rattle.book_rules.specs.declared.replies.Reply.TheVariants.{Entered, NoStage, Store, Left, Done, Deployed, Refused}
+use Rattle.book_rules.specs.declared.replies.Reply.TheVariants.{Entered, NoStage, Admitted, InvalidKey, Throttled, QuotaExceeded, Store, Left, Done, Deployed, Usage, Refused}
 use Rattle.play_script.specs.declared.records.LineFault.{LineFault}
 use Rattle.play_script.specs.declared.records.LineFault.TheVariants.{BadRecord, NotBuilt, Definition}
 use Rattle.gate_walk.specs.declared.ended.SessionFull.{SessionFull}
@@ -17,10 +17,15 @@ line_feed = 10 ∷ []
 abbrev pub reply_line : Reply → List ℕ
 reply_line Done = concat (codes "done" ∷ line_feed ∷ [])
 reply_line (Deployed number) = concat (codes "deployed " ∷ decimal number ∷ line_feed ∷ [])
+reply_line (Usage usage) = concat (usage_text usage ∷ line_feed ∷ [])
 reply_line (Refused refusal) = concat (codes "refused " ∷ refusal_name refusal ∷ line_feed ∷ [])
 reply_line Store = concat (codes "store" ∷ line_feed ∷ [])
 reply_line NoStage = []
 reply_line (Entered view) = []
+reply_line (Admitted key plan) = []
+reply_line InvalidKey = []
+reply_line (Throttled level) = []
+reply_line (QuotaExceeded allowance used) = []
 reply_line (Left closing) = []
 
 -- a line's fault and its place; an empty place is `~`

@@ -1,13 +1,15 @@
 -- The records of a script.
-use Rattle.std.specs.Prelude.{ℕ, Bool, ◌&&◌, ◌||◌, List, [], ◌∷◌, codes, Option, Some, None, if◌then◌else◌, Result, Ok, Err}
+use Rattle.std.specs.Prelude.{ℕ, Bool, true, false, ◌&&◌, List, [], ◌∷◌, codes, Option, Some, None, if◌then◌else◌, Result, Ok, Err}
 use Rattle.std.specs.Option.{option_and_then, option_map}
 use Rattle.std.specs.Str.{bytes_eq}
+use Rattle.book_rules.specs.declared.events.Command.TheVariants as command
 use Rattle.gw_base.specs.Names.{is_name}
+use Rattle.plan_fields.specs.Fields.{throttle_of, quota_of, plan_stages_of}
 use Rattle.record_fields.specs.Coding.{fields_of, text_of}
 use Rattle.record_fields.specs.Numbers.{number_of}
 use Rattle.record_fields.specs.Pairs.{pairs_of}
 use Rattle.play_script.specs.declared.records.Record.{Record}
-use Rattle.play_script.specs.declared.records.Record.TheVariants.{PutText, PutDocument, Deploy, PutStage, Shutdown, Post, Call}
+use Rattle.play_script.specs.declared.records.Record.TheVariants.{PutText, PutDocument, Ask, Post, Call}
 use Rattle.play_script.specs.declared.records.LineFault.{LineFault}
 use Rattle.play_script.specs.declared.records.LineFault.TheVariants.{BadRecord, NotBuilt}
 
@@ -39,7 +41,7 @@ unfoldable pub deploy_record : List ℕ → List ℕ → Reading
 deploy_record m a = do
   moment ← number_of 64 m
   api ← text_of a
-  Ok (Deploy moment api)
+  Ok (Ask moment (command.Deploy api))
 
 unfoldable pub stage_record : List ℕ → List ℕ → List ℕ → List ℕ → List (List ℕ) → Reading
 stage_record m a s d fields = do
@@ -48,12 +50,72 @@ stage_record m a s d fields = do
   stage ← text_of s
   deployment ← number_of 32 d
   variables ← pairs_of fields
-  Ok (PutStage moment api stage deployment variables)
+  Ok (Ask moment (command.PutStage api stage deployment (record { pairs = variables })))
+
+unfoldable pub canary_record : List ℕ → List ℕ → List ℕ → List ℕ → List ℕ → List (List ℕ) → Reading
+canary_record m a s d c fields = do
+  moment ← number_of 64 m
+  api ← text_of a
+  stage ← text_of s
+  deployment ← number_of 32 d
+  share ← number_of 32 c
+  variables ← pairs_of fields
+  Ok (Ask moment (command.PutCanary api stage deployment share (record { pairs = variables })))
+
+unfoldable pub promote_record : List ℕ → List ℕ → List ℕ → Reading
+promote_record m a s = do
+  moment ← number_of 64 m
+  api ← text_of a
+  stage ← text_of s
+  Ok (Ask moment (command.PromoteCanary api stage))
+
+-- whether a key is enabled
+unfoldable pub is_on : List ℕ → Option Bool
+is_on field = if bytes_eq field (codes "on") then Some true else if bytes_eq field (codes "off") then Some false else None
+
+unfoldable pub key_record : List ℕ → List ℕ → List ℕ → List ℕ → Reading
+key_record m k v e = do
+  moment ← number_of 64 m
+  key ← text_of k
+  value ← text_of v
+  enabled ← is_on e
+  Ok (Ask moment (command.PutKey key value enabled))
+
+unfoldable pub plan_record : List ℕ → List ℕ → List ℕ → List ℕ → List (List ℕ) → Reading
+plan_record m p t q fields = do
+  moment ← number_of 64 m
+  plan ← text_of p
+  throttle ← throttle_of t
+  quota ← quota_of q
+  stages ← plan_stages_of fields
+  Ok (Ask moment (command.PutPlan plan throttle quota stages))
+
+unfoldable pub join_record : List ℕ → List ℕ → List ℕ → Reading
+join_record m p k = do
+  moment ← number_of 64 m
+  plan ← text_of p
+  key ← text_of k
+  Ok (Ask moment (command.JoinKey plan key))
+
+unfoldable pub grant_record : List ℕ → List ℕ → List ℕ → List ℕ → Reading
+grant_record m p k n = do
+  moment ← number_of 64 m
+  plan ← text_of p
+  key ← text_of k
+  amount ← number_of 64 n
+  Ok (Ask moment (command.Grant plan key amount))
+
+unfoldable pub usage_record : List ℕ → List ℕ → List ℕ → Reading
+usage_record m p k = do
+  moment ← number_of 64 m
+  plan ← text_of p
+  key ← text_of k
+  Ok (Ask moment (command.Usage plan key))
 
 unfoldable pub shutdown_record : List ℕ → Reading
 shutdown_record m = do
   moment ← number_of 64 m
-  Ok (Shutdown moment)
+  Ok (Ask moment command.Shutdown)
 
 -- a call's API and stage are names
 abbrev pub called : List ℕ → List ℕ → Record → Reading
@@ -91,6 +153,34 @@ abbrev pub stage_fields : List (List ℕ) → Reading
 stage_fields (m ∷ a ∷ s ∷ d ∷ variables) = stage_record m a s d variables
 stage_fields fields = Err BadRecord
 
+abbrev pub canary_fields : List (List ℕ) → Reading
+canary_fields (m ∷ a ∷ s ∷ d ∷ c ∷ variables) = canary_record m a s d c variables
+canary_fields fields = Err BadRecord
+
+abbrev pub promote_fields : List (List ℕ) → Reading
+promote_fields (m ∷ a ∷ s ∷ []) = promote_record m a s
+promote_fields fields = Err BadRecord
+
+abbrev pub key_fields : List (List ℕ) → Reading
+key_fields (m ∷ k ∷ v ∷ e ∷ []) = key_record m k v e
+key_fields fields = Err BadRecord
+
+abbrev pub plan_fields : List (List ℕ) → Reading
+plan_fields (m ∷ p ∷ t ∷ q ∷ stages) = plan_record m p t q stages
+plan_fields fields = Err BadRecord
+
+abbrev pub join_fields : List (List ℕ) → Reading
+join_fields (m ∷ p ∷ k ∷ []) = join_record m p k
+join_fields fields = Err BadRecord
+
+abbrev pub grant_fields : List (List ℕ) → Reading
+grant_fields (m ∷ p ∷ k ∷ n ∷ []) = grant_record m p k n
+grant_fields fields = Err BadRecord
+
+abbrev pub usage_fields : List (List ℕ) → Reading
+usage_fields (m ∷ p ∷ k ∷ []) = usage_record m p k
+usage_fields fields = Err BadRecord
+
 abbrev pub shutdown_fields : List (List ℕ) → Reading
 shutdown_fields (m ∷ []) = shutdown_record m
 shutdown_fields fields = Err BadRecord
@@ -103,12 +193,26 @@ abbrev pub call_fields : List (List ℕ) → Reading
 call_fields (m ∷ w ∷ bytes ∷ outcomes) = call_record m w bytes outcomes
 call_fields fields = Err BadRecord
 
--- the records that are held back
-unfoldable pub is_held_back : List ℕ → Bool
-is_held_back name =
-    bytes_eq name (codes "canary") || bytes_eq name (codes "promote")
-    || bytes_eq name (codes "key") || bytes_eq name (codes "plan") || bytes_eq name (codes "join")
-    || bytes_eq name (codes "grant") || bytes_eq name (codes "flush") || bytes_eq name (codes "usage")
+-- the records of keys and plans; a `flush` is held back
+unfoldable pub record_of_plans : List ℕ → List (List ℕ) → Reading
+record_of_plans name fields =
+    if bytes_eq name (codes "key") then key_fields fields
+    else if bytes_eq name (codes "plan") then plan_fields fields
+    else if bytes_eq name (codes "join") then join_fields fields
+    else if bytes_eq name (codes "grant") then grant_fields fields
+    else if bytes_eq name (codes "usage") then usage_fields fields
+    else if bytes_eq name (codes "flush") then Err NotBuilt
+    else Err BadRecord
+
+-- those of stages before them
+unfoldable pub record_of_stages : List ℕ → List (List ℕ) → Reading
+record_of_stages name fields =
+    if bytes_eq name (codes "deploy") then deploy_fields fields
+    else if bytes_eq name (codes "stage") then stage_fields fields
+    else if bytes_eq name (codes "canary") then canary_fields fields
+    else if bytes_eq name (codes "promote") then promote_fields fields
+    else if bytes_eq name (codes "shutdown") then shutdown_fields fields
+    else record_of_plans name fields
 
 -- the record of these fields, the first of which is its name
 unfoldable pub record_of : List (List ℕ) → Reading
@@ -116,13 +220,9 @@ record_of [] = Err BadRecord
 record_of (name ∷ fields) =
     if bytes_eq name (codes "text") then text_fields fields
     else if bytes_eq name (codes "api") then api_fields fields
-    else if bytes_eq name (codes "deploy") then deploy_fields fields
-    else if bytes_eq name (codes "stage") then stage_fields fields
-    else if bytes_eq name (codes "shutdown") then shutdown_fields fields
     else if bytes_eq name (codes "post") then post_fields fields
     else if bytes_eq name (codes "call") then call_fields fields
-    else if is_held_back name then Err NotBuilt
-    else Err BadRecord
+    else record_of_stages name fields
 
 -- the record of a line, all of whose fields have their form
 abbrev pub record_in_fields : Option (List (List ℕ)) → Reading

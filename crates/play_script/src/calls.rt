@@ -13,8 +13,7 @@ use crate::records::{LineFault, Record};
 use crate::turns::{End, Said};
 use api_model::Api;
 use book_rules::{Command, Event};
-use call_facts::Vars;
-use gw_base::{Bytes, Memory, Seq, Shared, Text};
+use gw_base::{Bytes, Memory, Shared, Text};
 use play_session::{Reading, Session};
 use std::alloc::Global;
 use std::sync::Wait;
@@ -75,30 +74,6 @@ fn put<R: Wait>(
     }
 }
 
-// Points a stage to a deployment, with its variables.
-fn put_stage<R: Wait>(
-    session: &mut Session<'_, R>,
-    alloc: Global,
-    moment: u64,
-    api: Text,
-    stage: Text,
-    deployment: u32,
-    variables: Seq<(Text, Text)>,
-) -> Result<Said, Memory>
-    ensures does { IfOk result (λ said. commanded_of session.old.base session.old.history moment (Command.PutStage api stage deployment (record { pairs = variables }))
-        ≡ record { history = session.new.history; text = said.text; ends = said.ends }) }
-    ensures base { session.new.base ≡ session.old.base }
-{
-    let variables = Shared::new(alloc, Vars { pairs: variables })?;
-    let put = Command::PutStage {
-        api,
-        stage,
-        deployment,
-        variables,
-    };
-    command(session, alloc, moment, put)
-}
-
 // A connection whose outcomes have their form.
 fn call<R: Wait>(
     session: &mut Session<'_, R>,
@@ -144,15 +119,10 @@ fn carry_out<R: Wait>(
             let taken = take_document(alloc, document.as_str())?;
             put(session, alloc, number, moment, api, taken)
         }
-        Record::Deploy { moment, api } => command(session, alloc, moment, Command::Deploy { api }),
-        Record::PutStage {
+        Record::Ask {
             moment,
-            api,
-            stage,
-            deployment,
-            variables,
-        } => put_stage(session, alloc, moment, api, stage, deployment, variables),
-        Record::Shutdown { moment } => command(session, alloc, moment, Command::Shutdown),
+            command: asked,
+        } => command(session, alloc, moment, asked),
         Record::Post {
             moment,
             word,

@@ -11,15 +11,15 @@ use std::alloc::Global;
 /// A definition, or why its line is refused.
 type Taken = Result<Api, LineFault>;
 
-// Whether a method asks for a key, or has an authorizer.
+// Whether a method has an authorizer.
 fn is_unbuilt(definition: &Api, method: u32) -> bool
     requires { method < length (parts_of definition.now).methods }
     ensures { option_map (is_unbuilt_of (parts_of definition.now).authorizers) (slice_get (parts_of definition.now).methods method) ≡ Some result }
 {
-    definition.api_key_required(method) || definition.authorizer(method).is_some()
+    definition.authorizer(method).is_some()
 }
 
-/// Whether a method of a definition asks for a key, or has an authorizer: neither is built yet.
+/// Whether a method of a definition has an authorizer, which is not built.
 #[tactic(auto, unfolding(crate::specs::Definitions::needs_unbuilt))]
 pub fn needs_unbuilt(definition: &Api) -> bool
     ensures { result ≡ needs_unbuilt_of definition.now }

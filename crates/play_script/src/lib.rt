@@ -20,7 +20,11 @@
 //! | `keepfails 0` alone | nothing: the load fails, and `play_within` answers `Err(PlayStop::Keeper)` |
 //! | `api 0 pets {"bogus":1}` | `refused line 1 Unknown(bogus) at /bogus`, and the play ends with status 1 |
 //! | `bogus 1` | `refused line 1 BadRecord at ~`, and the play ends with status 1 |
-//! | `key 0 k v on` | `refused line 1 NotBuilt at ~`, and the play ends with status 1 |
+//! | `key 0 k v on`, `key 0 k v off` | `done`: a key that admits calls, and one that admits none |
+//! | `plan 0 p 5:10 1000:0:DAY hello/v1` | `done`: a plan of one stage, 5 a second and 10 at once, 1,000 a day |
+//! | `plan 0 p - - hello` | `refused line 1 BadRecord at ~`: a stage has its API before a slash |
+//! | `grant 0 p k 2`, `usage 0 p k` | `done`, and `usage period=DAY:0 allowance=1002 used=0 remaining=1002` |
+//! | `flush 0 hello v1` | `refused line 1 NotBuilt at ~`, and the play ends with status 1 |
 //! | `stage 0 hello v1 1 env=x` | `done`, and `$stageVariables.env` is `x` in the answers of the stage |
 //!
 //! What is promised: what is written is `Plays` of `specs/Play.antt` to the byte, a definition that speaks of every script,
@@ -28,7 +32,7 @@
 //! just that is told (`opening_of`, `names_load`); `specs/Coding.antt` says which lines it has,
 //! `specs/Records.antt` which records they are, and `specs/Printed.antt` and `specs/Calls.antt` what is printed.
 //! A definition is put where it is stated and all of it is built, which says `taken` of `specs/Definitions.antt`: a document with a
-//! method that asks for a key or has an authorizer is `NotBuilt` ([`needs_unbuilt`] is exactly that). [`join`] puts parts of a line together. Fields are coded and read by `record_fields`. The lines of a script, their records and
+//! method that has an authorizer is `NotBuilt` ([`needs_unbuilt`] is exactly that). [`join`] puts parts of a line together. Fields are coded and read by `record_fields`. The lines of a script, their records and
 //! what is printed of a command stand apart ([`first_line`], [`record_in`], [`take_document`], [`take_text`], [`reply_line`], [`refuse`]): the command `admin` takes
 //! them too.
 #![tactic(auto)]
@@ -40,10 +44,12 @@ mod fields;
 mod joining;
 mod opening;
 mod outcomes;
+mod plans;
 mod play;
 mod printed;
 mod reading;
 mod records;
+mod stages;
 mod stops;
 mod turns;
 

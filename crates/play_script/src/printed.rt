@@ -22,12 +22,23 @@ pub fn reply_line(alloc: Global, reply: &Reply) -> Result<Text, Memory>
             let number = number.to_string(alloc)?;
             join(alloc, &["deployed ", number.as_str(), "\n"])
         }
+        Reply::Usage(usage) => {
+            let usage = usage.to_string(alloc)?;
+            join(alloc, &[usage.as_str(), "\n"])
+        }
         Reply::Refused(refusal) => {
             let name = refusal.to_string(alloc)?;
             join(alloc, &["refused ", name.as_str(), "\n"])
         }
         Reply::Store => join(alloc, &["store", "\n"]),
-        Reply::NoStage | Reply::Entered(_) | Reply::Left { .. } => Ok(Text::of(String::new(alloc))),
+        // To an event that is no command.
+        Reply::NoStage
+        | Reply::Entered(_)
+        | Reply::Admitted { .. }
+        | Reply::InvalidKey
+        | Reply::Throttled { .. }
+        | Reply::QuotaExceeded { .. }
+        | Reply::Left { .. } => Ok(Text::of(String::new(alloc))),
     }
 }
 

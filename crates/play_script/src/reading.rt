@@ -1,14 +1,12 @@
 // The record of a line.
 ghost use Rattle.std.specs.Prelude.{◌≡◌, ◌≢◌, Ok, Err, IfOk, option_map};
-ghost use Rattle.play_script.specs.Records.{called as called_of, text_record as text_record_of, api_record as api_record_of, deploy_record as deploy_record_of, stage_record as stage_record_of, shutdown_record as shutdown_record_of, post_record as post_record_of, call_record as call_record_of, call_fields as call_fields_of, text_fields as text_fields_of, api_fields as api_fields_of, deploy_fields as deploy_fields_of, stage_fields as stage_fields_of, shutdown_fields as shutdown_fields_of, post_fields as post_fields_of, is_held_back as is_held_back_of, record_of as record_of_fields, record_in as record_in_line, numbers_of, keepfails_fields as keepfails_fields_of, keepfails_of as keepfails_of_fields, fails_in as fails_in_line};
+ghost use Rattle.play_script.specs.Records.{text_record as text_record_of, api_record as api_record_of, post_record as post_record_of, call_record as call_record_of, call_fields as call_fields_of, text_fields as text_fields_of, api_fields as api_fields_of, post_fields as post_fields_of, record_of as record_of_fields, record_in as record_in_line, numbers_of, keepfails_fields as keepfails_fields_of, keepfails_of as keepfails_of_fields, fails_in as fails_in_line};
 
-use crate::records::{LineFault, Record};
+use crate::records::{LineFault, Reading, Record};
+use crate::stages::record_of_stages;
 use gw_base::{Bytes, Memory, Seq, is_name};
-use record_fields::{fields_in, number, pairs_in, small_number, text_of};
+use record_fields::{fields_in, number, small_number, text_of};
 use std::alloc::Global;
-
-/// A record, or why the line has none.
-type Reading = Result<Record, LineFault>;
 
 #[tactic(auto, unfolding(crate::specs::Records::text_record))]
 fn text_record(alloc: Global, moment: &[u8], api: &[u8], template: &[u8]) -> Result<Reading, Memory>
@@ -48,64 +46,6 @@ fn api_record(alloc: Global, moment: &[u8], api: &[u8], document: &[u8]) -> Resu
         api,
         document,
     }))
-}
-
-#[tactic(auto, unfolding(crate::specs::Records::deploy_record))]
-fn deploy_record(alloc: Global, moment: &[u8], api: &[u8]) -> Result<Reading, Memory>
-    ensures { IfOk result (λ r. r ≡ deploy_record_of moment.now api.now) }
-{
-    let Some(moment) = number(moment) else {
-        return Ok(Err(LineFault::BadRecord));
-    };
-    let Some(api) = text_of(alloc, api)? else {
-        return Ok(Err(LineFault::BadRecord));
-    };
-    Ok(Ok(Record::Deploy { moment, api }))
-}
-
-#[tactic(auto, unfolding(crate::specs::Records::stage_record))]
-fn stage_record(
-    alloc: Global,
-    moment: &[u8],
-    api: &[u8],
-    stage: &[u8],
-    deployment: &[u8],
-    fields: &[Bytes],
-) -> Result<Reading, Memory>
-    ensures { IfOk result (λ r. r ≡ stage_record_of moment.now api.now stage.now deployment.now fields.now) }
-{
-    let Some(moment) = number(moment) else {
-        return Ok(Err(LineFault::BadRecord));
-    };
-    let Some(api) = text_of(alloc, api)? else {
-        return Ok(Err(LineFault::BadRecord));
-    };
-    let Some(stage) = text_of(alloc, stage)? else {
-        return Ok(Err(LineFault::BadRecord));
-    };
-    let Some(deployment) = small_number(deployment) else {
-        return Ok(Err(LineFault::BadRecord));
-    };
-    let Some(variables) = pairs_in(alloc, fields)? else {
-        return Ok(Err(LineFault::BadRecord));
-    };
-    Ok(Ok(Record::PutStage {
-        moment,
-        api,
-        stage,
-        deployment,
-        variables: Seq::of(variables),
-    }))
-}
-
-#[tactic(auto, unfolding(crate::specs::Records::shutdown_record))]
-fn shutdown_record(moment: &[u8]) -> Reading
-    ensures { result ≡ shutdown_record_of moment.now }
-{
-    let Some(moment) = number(moment) else {
-        return Err(LineFault::BadRecord);
-    };
-    Ok(Record::Shutdown { moment })
 }
 
 #[tactic(auto, unfolding(crate::specs::Records::post_record))]
@@ -209,40 +149,6 @@ fn api_fields(alloc: Global, fields: &[Bytes]) -> Result<Reading, Memory>
     }
 }
 
-fn deploy_fields(alloc: Global, fields: &[Bytes]) -> Result<Reading, Memory>
-    ensures { IfOk result (λ r. r ≡ deploy_fields_of fields.now) }
-{
-    match fields {
-        [m, a] => deploy_record(alloc, m.as_slice(), a.as_slice()),
-        _ => Ok(Err(LineFault::BadRecord)),
-    }
-}
-
-fn stage_fields(alloc: Global, fields: &[Bytes]) -> Result<Reading, Memory>
-    ensures { IfOk result (λ r. r ≡ stage_fields_of fields.now) }
-{
-    match fields {
-        [m, a, s, d, variables @ ..] => stage_record(
-            alloc,
-            m.as_slice(),
-            a.as_slice(),
-            s.as_slice(),
-            d.as_slice(),
-            variables,
-        ),
-        _ => Ok(Err(LineFault::BadRecord)),
-    }
-}
-
-fn shutdown_fields(fields: &[Bytes]) -> Reading
-    ensures { result ≡ shutdown_fields_of fields.now }
-{
-    match fields {
-        [m] => shutdown_record(m.as_slice()),
-        _ => Err(LineFault::BadRecord),
-    }
-}
-
 fn post_fields(alloc: Global, fields: &[Bytes]) -> Result<Reading, Memory>
     ensures { IfOk result (λ r. r ≡ post_fields_of fields.now) }
 {
@@ -259,21 +165,6 @@ fn post_fields(alloc: Global, fields: &[Bytes]) -> Result<Reading, Memory>
     }
 }
 
-// Whether a record of this name belongs to a part that is not built.
-#[tactic(auto, unfolding(crate::specs::Records::is_held_back))]
-fn is_held_back(name: &[u8]) -> bool
-    ensures { result ≡ is_held_back_of name.now }
-{
-    name == b"canary".as_slice()
-        || name == b"promote".as_slice()
-        || name == b"key".as_slice()
-        || name == b"plan".as_slice()
-        || name == b"join".as_slice()
-        || name == b"grant".as_slice()
-        || name == b"flush".as_slice()
-        || name == b"usage".as_slice()
-}
-
 #[tactic(auto, unfolding(crate::specs::Records::record_of))]
 fn record_of(alloc: Global, fields: &[Bytes]) -> Result<Reading, Memory>
     ensures { IfOk result (λ r. r ≡ record_of_fields fields.now) }
@@ -288,25 +179,13 @@ fn record_of(alloc: Global, fields: &[Bytes]) -> Result<Reading, Memory>
     if name == b"api".as_slice() {
         return api_fields(alloc, rest);
     }
-    if name == b"deploy".as_slice() {
-        return deploy_fields(alloc, rest);
-    }
-    if name == b"stage".as_slice() {
-        return stage_fields(alloc, rest);
-    }
-    if name == b"shutdown".as_slice() {
-        return Ok(shutdown_fields(rest));
-    }
     if name == b"post".as_slice() {
         return post_fields(alloc, rest);
     }
     if name == b"call".as_slice() {
         return call_fields(alloc, rest);
     }
-    if is_held_back(name) {
-        return Ok(Err(LineFault::NotBuilt));
-    }
-    Ok(Err(LineFault::BadRecord))
+    record_of_stages(alloc, name, rest)
 }
 
 /// The record of a line, or why it has none.

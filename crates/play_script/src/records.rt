@@ -1,4 +1,5 @@
 use api_model::ApiFault;
+use book_rules::Command;
 use gw_base::{Bytes, Seq, Text};
 
 /// A record of a script, read from its line.
@@ -16,23 +17,10 @@ pub enum Record {
         api: Text,
         document: Text,
     },
-    /// `deploy M API`: takes a snapshot of an API.
-    Deploy {
+    /// A command that has no definition: `deploy`, `stage`, `canary`, `promote`, `key`, `plan`, `join`, `grant`, `usage` or `shutdown`.
+    Ask {
         moment: u64,
-        api: Text,
-    },
-    /// `stage M API STAGE DEPLOYMENT` and fields `name=value`: makes a stage, or points it to another deployment, with these
-    /// variables.
-    PutStage {
-        moment: u64,
-        api: Text,
-        stage: Text,
-        deployment: u32,
-        variables: Seq<(Text, Text)>,
-    },
-    /// `shutdown M`: closes the session: from here on each answer is the last one on its connection.
-    Shutdown {
-        moment: u64,
+        command: Command,
     },
     /// `post M W API STAGE BODY`: a call of `POST /API/STAGE` with this body.
     Post {
@@ -61,3 +49,6 @@ pub enum LineFault {
     /// The definition, which a template is too, is not stated.
     Definition(ApiFault),
 }
+
+/// A record, or why the line has none.
+pub type Reading = Result<Record, LineFault>;

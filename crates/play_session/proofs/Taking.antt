@@ -27,9 +27,9 @@ kept_by false kept planned else_kept as_planned = else_kept refl
 
 kept_at : (base : Base) (history : List Entry) (entry : Entry) (planned : Option Planned) (plan : Planned) → planned ≡ Some plan
     → (is_changing base.opening history entry.event ≡ false → entry.kept ≡ true) → IsAsPlanned base history entry planned
-    → entry.kept ≡ (not (is_changing base.opening history entry.event) || is_planned base history planned)
+    → entry.kept ≡ (not (is_changing base.opening history entry.event) || is_planned base history entry.event planned)
 kept_at base history entry None plan told else_kept as_planned = absurd cc
-kept_at base history entry (Some known) plan told else_kept as_planned = kept_by (is_changing base.opening history entry.event) entry.kept (is_planned base history (Some known)) else_kept as_planned
+kept_at base history entry (Some known) plan told else_kept as_planned = kept_by (is_changing base.opening history entry.event) entry.kept (is_planned base history entry.event (Some known)) else_kept as_planned
 
 is_the_entry : (base : Base) (history : List Entry) (entry : Entry) (event : Event) → entry.seat ≡ 0 → entry.event ≡ event → entry.kept ≡ is_kept base history entry.event → entry ≡ entry_at 0 base history event
 is_the_entry base history entry event seat same kept =

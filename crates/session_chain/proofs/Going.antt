@@ -33,8 +33,8 @@ lead_more limits base lanes (f ∷ full) s next l held has b = (l.0, l.1, l.2, l
 histories_more : (full : List HeldSession) (s : HeldSession) → histories_of (full ++ s ∷ []) ≡ histories_of full ++ s.history ∷ []
 histories_more full s = map-append (λ (h : HeldSession). h.history) full (s ∷ [])
 
-lines_more : (full : List HeldSession) (s : HeldSession) → lines_of full ++ session_line s.history ≡ lines_of (full ++ s ∷ [])
-lines_more full s = flat_map_more (λ (h : HeldSession). session_line h.history) [] full s
+lines_more : (full : List HeldSession) (s : HeldSession) → lines_of full ++ session_line s.base.opening s.history ≡ lines_of (full ++ s ∷ [])
+lines_more full s = flat_map_more (λ (h : HeldSession). session_line h.base.opening h.history) [] full s
 
 -- full sessions led to this book over these lanes; their lines were written, and their histories handed on
 pub record Going (limits : Limits) (base : Base) (lent : List LaneTold) (archived : Option (List (List Entry))) (written : Option (List ℕ)) (full : List HeldSession)
@@ -51,14 +51,14 @@ handed_more : (archived archive archive' : Option (List (List Entry))) (full : L
 handed_more archived archive archive' full s so is =
     is ∙ ap (λ a. gained a s.history) so ∙ gained_more archived (histories_of full) s.history ∙ ap (gained_all archived) (sym (histories_more full s))
 
-written_more : (written now now' : Option (List ℕ)) (full : List HeldSession) (s : HeldSession) → Appends written now (lines_of full) → Appends now now' (session_line s.history) → Appends written now' (lines_of (full ++ s ∷ []))
-written_more written now now' full s so line = subst (Appends written now') (lines_more full s) (Appends-trans written now now' (lines_of full) (session_line s.history) so line)
+written_more : (written now now' : Option (List ℕ)) (full : List HeldSession) (s : HeldSession) → Appends written now (lines_of full) → Appends now now' (session_line s.base.opening s.history) → Appends written now' (lines_of (full ++ s ∷ []))
+written_more written now now' full s so line = subst (Appends written now') (lines_more full s) (Appends-trans written now now' (lines_of full) (session_line s.base.opening s.history) so line)
 
 module _ (limits : Limits) (base : Base) (lent : List LaneTold) (archived : Option (List (List Entry))) (written : Option (List ℕ)) (full : List HeldSession) (s : HeldSession)
     (archive archive' : Option (List (List Entry))) (now now' : Option (List ℕ)) (going : Going limits base lent archived written full s.base s.before archive now) (held : WasHeld s)
     (handed : archive' ≡ gained archive s.history) where
   -- one that is full, and the next begins
-  pub going_on : has_next s.ends s.history ≡ true → (next : Base) → Begins limits s.base s.history s.keeper next → Appends now now' (session_line s.history)
+  pub going_on : has_next s.ends s.history ≡ true → (next : Base) → Begins limits s.base s.history s.keeper next → Appends now now' (session_line s.base.opening s.history)
       → Going limits base lent archived written (full ++ s ∷ []) next s.now archive' now'
   going_on has next begins line = record {
     lead = lead_more limits base lent full s next going.lead held has begins;
@@ -70,11 +70,11 @@ module _ (limits : Limits) (base : Base) (lent : List LaneTold) (archived : Opti
   pub chain_of : Chain limits base lent s.now archived archive' full s
   chain_of = record { lead = going.lead; held = held; left = refl; handed_on = handed_more archived archive archive' full s going.handed_on handed }
 
-  pub lines_with : Appends now now' (session_line s.history) → Appends written now' (lines_of (full ++ s ∷ []))
+  pub lines_with : Appends now now' (session_line s.base.opening s.history) → Appends written now' (lines_of (full ++ s ∷ []))
   lines_with line = written_more written now now' full s going.lines line
 
-  pub lines_cut : AppendsFront now now' (session_line s.history) → AppendsFront written now' (lines_of (full ++ s ∷ []))
-  lines_cut line = subst (AppendsFront written now') (lines_more full s) (cut_second written now now' (lines_of full) (session_line s.history) going.lines line)
+  pub lines_cut : AppendsFront now now' (session_line s.base.opening s.history) → AppendsFront written now' (lines_of (full ++ s ∷ []))
+  lines_cut line = subst (AppendsFront written now') (lines_more full s) (cut_second written now now' (lines_of full) (session_line s.base.opening s.history) going.lines line)
 
 -- a session that has a next one: no Shutdown stands in its history
 pub none_shuts : (ends : List LaneEnd) (history : List Entry) → has_next ends history ≡ true → list_any shuts_at history ≡ false

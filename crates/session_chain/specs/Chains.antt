@@ -47,7 +47,7 @@ abbrev pub histories_of : List HeldSession → List (List Entry)
 histories_of sessions = map (λ (s : HeldSession). s.history) sessions
 
 abbrev pub lines_of : List HeldSession → List ℕ
-lines_of sessions = flat_map (λ (s : HeldSession). session_line s.history) sessions
+lines_of sessions = flat_map (λ (s : HeldSession). session_line s.base.opening s.history) sessions
 
 -- A chain of sessions, with the last one:
 pub record Chain (limits : Limits) (base : Base) (lent back : List LaneTold) (archived archive : Option (List (List Entry))) (full : List HeldSession) (last : HeldSession) : Type 0 where

@@ -32,7 +32,7 @@ fn shuts(event: &Event) -> bool
 {
     match event {
         Event::Admin { command, .. } => matches!(command, Command::Shutdown),
-        Event::Enter { .. } | Event::Leave { .. } => false,
+        Event::Enter { .. } | Event::Admit { .. } | Event::Leave { .. } => false,
     }
 }
 

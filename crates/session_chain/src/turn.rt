@@ -28,8 +28,8 @@ pub(crate) fn tell<K: Keeper, S: Sink>(
     output: &mut S,
     book: &Book<K>,
 ) -> Result<(), WriteStop>
-    ensures all { OnOk result (Appends (S.written output.old) (S.written output.new) (session_line_of book.now.history)) }
-    ensures front { AppendsFront (S.written output.old) (S.written output.new) (session_line_of book.now.history) }
+    ensures all { OnOk result (Appends (S.written output.old) (S.written output.new) (session_line_of book.now.base.opening book.now.history)) }
+    ensures front { AppendsFront (S.written output.old) (S.written output.new) (session_line_of book.now.base.opening book.now.history) }
     ensures cause { HasWriteCause (S.faults output.old) (S.faults output.new) result }
 {
     let line = session_line(alloc, book)?;

@@ -110,6 +110,11 @@ fn word(reply: &Reply) -> &'static str {
     match reply {
         Reply::Entered(_) => "entered ",
         Reply::NoStage => "nostage ",
+        Reply::Admitted { .. } => "admitted ",
+        Reply::InvalidKey => "invalid ",
+        Reply::Throttled { .. } => "throttled ",
+        Reply::QuotaExceeded { .. } => "exceeded ",
+        Reply::Usage(_) => "usage ",
         Reply::Store => "store ",
         Reply::Left { closing: true } => "closing ",
         Reply::Left { closing: false } => "left ",

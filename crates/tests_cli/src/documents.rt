@@ -45,7 +45,7 @@ const ROWS: [(&str, &str, u8); 23] = [
         "refused line 1 Unclosed(0) at /resources/~1a/GET/integration/templates/application~1json\n",
         1,
     ),
-    // Methods with a key or an authorizer are not built; an authorizer that none has, and a key that none asks for, are no matter.
+    // Methods with an authorizer are not built; an authorizer that none has is no matter, and a method may ask for a key.
     (
         "api 0 a {\"version\":1,\"resources\":{\"/a\":{\"GET\":{\"apiKeyRequired\":false,\"integration\":{\"type\":\"MOCK\"}}}}}\n",
         "done\n",
@@ -58,8 +58,8 @@ const ROWS: [(&str, &str, u8); 23] = [
     ),
     (
         "deploy 0 a\napi 0 a {\"version\":1,\"resources\":{\"/a\":{\"GET\":{\"apiKeyRequired\":true,\"integration\":{\"type\":\"MOCK\"}}}}}\ndeploy 0 a\n",
-        "refused NoApi\nrefused line 2 NotBuilt at ~\n",
-        1,
+        "refused NoApi\ndone\ndeployed 1\n",
+        0,
     ),
     (
         "api 0 a {\"version\":1,\"authorizers\":{\"t\":{\"header\":\"h\",\"uri\":\"http://localhost:1/\"}},\"resources\":{\"/a\":{\"GET\":{\"authorizer\":\"t\",\"integration\":{\"type\":\"MOCK\"}}}}}\n",
@@ -67,7 +67,7 @@ const ROWS: [(&str, &str, u8); 23] = [
         1,
     ),
     (
-        "api 0 a {\"version\":1,\"resources\":{\"/a\":{\"GET\":{\"integration\":{\"type\":\"MOCK\"}},\"PUT\":{\"integration\":{\"type\":\"MOCK\"}}},\"/b\":{\"ANY\":{\"apiKeyRequired\":true,\"integration\":{\"type\":\"MOCK\"}}}}}\n",
+        "api 0 a {\"version\":1,\"authorizers\":{\"t\":{\"header\":\"h\",\"uri\":\"http://localhost:1/\"}},\"resources\":{\"/a\":{\"GET\":{\"integration\":{\"type\":\"MOCK\"}},\"PUT\":{\"integration\":{\"type\":\"MOCK\"}}},\"/b\":{\"ANY\":{\"authorizer\":\"t\",\"integration\":{\"type\":\"MOCK\"}}}}}\n",
         "refused line 1 NotBuilt at ~\n",
         1,
     ),

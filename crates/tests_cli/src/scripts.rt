@@ -93,7 +93,7 @@ const ROWS: [Row; 26] = [
         status: 0,
     },
     Row {
-        script: "key 0 k v on\n",
+        script: "flush 0 hello v1\n",
         said: "refused line 1 NotBuilt at ~\n",
         status: 1,
     },

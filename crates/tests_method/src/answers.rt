@@ -4,7 +4,7 @@ use api_model::Api;
 use call_facts::{Answer, CallFacts, Kind, Vars};
 use gateway_answers::gateway_answer;
 use gw_base::{Memory, Seq, Shared, Text};
-use method_answers::{Plan, plan_method};
+use method_answers::{Plan, Way, plan_method};
 use std::alloc::Global;
 use std::process::Abort;
 use std::test::Fail;
@@ -140,8 +140,8 @@ fn text(alloc: Global, from: &str) -> Result<Text, Memory> {
     Ok(Text::of(String::from_str(alloc, from)?))
 }
 
-// What is known of a call before its route.
-fn facts(alloc: Global) -> Result<CallFacts, Memory> {
+/// What is known of a call before its route.
+pub fn facts(alloc: Global) -> Result<CallFacts, Memory> {
     let pairs = fields(alloc, &[("env", "test"), ("env", "prod")])?;
     Ok(CallFacts {
         api: text(alloc, "shop")?,
@@ -174,14 +174,22 @@ fn told(alloc: Global, answer: &Answer) -> Result<String, Memory> {
     Ok(told)
 }
 
+/// A plan that asks no backend, in words.
+pub fn plan_told(alloc: Global, plan: &Plan) -> Result<String, Memory> {
+    match plan {
+        Plan::Answered(made) => told(alloc, &made.answer),
+        Plan::Asks(_) => Err(Memory),
+    }
+}
+
 fn answered(alloc: Global, api: &Api, call: &Call) -> Result<String, Memory> {
     let facts = facts(alloc)?;
     if facts.at >= 4_102_444_800_000 {
         return Err(Memory);
     }
     match plan_method(alloc, api, &call.request, &call.target, facts)? {
-        Plan::Answered(made) => told(alloc, &made.answer),
-        Plan::Asks(_) => Err(Memory),
+        Way::Goes(plan) => plan_told(alloc, &plan),
+        Way::Admits(_) => Err(Memory),
     }
 }
 

@@ -12,6 +12,7 @@
 //! | `tokens.rt` | header fields, with the token that they have |
 //! | `validation.rt` | calls, with the message that tells what they fail by |
 //! | `media.rt` | content types, with their media type |
+//! | `keys.rt` | calls of methods that ask for a key, with the stage and the value that are asked by, and what each admission leads to |
 //! | `answers.rt` | calls that fail, with the answer to the byte, where the API has rules and where it has none |
 //!
 //! Nothing is promised here: `method_checks`, `gateway_answers` and `method_answers` say what their calls answer, and this
@@ -22,6 +23,8 @@
 mod answers;
 #[cfg(test)]
 mod calls;
+#[cfg(test)]
+mod keys;
 #[cfg(test)]
 mod media;
 #[cfg(test)]

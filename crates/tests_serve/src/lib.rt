@@ -7,6 +7,7 @@
 //! |---|---|
 //! | `connections` | tables of bytes with the answers that are written, how the connection ends and the entries, at 1 and 4,096 bytes a read |
 //! | `documents` | an API that is a document: what is answered to requests that fail by its routes, its checks or the size of their body, by its rules |
+//! | `keys` | methods that ask for a key: what is answered by each admission, and two lanes that share what one key's plan allows |
 //! | `failing_calls` | each read and each write failing once |
 //! | `gates` | a gate that is passed before each exchange alone, and what a backend is asked |
 //! | `limits` | sessions that get full at an Enter or a Leave |
@@ -26,6 +27,8 @@ mod documents;
 mod failing_calls;
 #[cfg(test)]
 mod gates;
+#[cfg(test)]
+mod keys;
 #[cfg(test)]
 mod lanes;
 #[cfg(test)]

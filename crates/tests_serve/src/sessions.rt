@@ -56,7 +56,8 @@ pub(crate) struct Served {
     pub history: Vec<Entry>,
 }
 
-fn text(alloc: Global, from: &str) -> Result<Text, Memory> {
+/// A text.
+pub(crate) fn text(alloc: Global, from: &str) -> Result<Text, Memory> {
     Ok(Text::of(String::from_str(alloc, from)?))
 }
 
@@ -67,7 +68,8 @@ fn hello(alloc: Global) -> Result<Shared<Api>, Memory> {
     }
 }
 
-fn ask(command: Command) -> Event {
+/// An administrator asks for a change.
+pub(crate) fn ask(command: Command) -> Event {
     Event::Admin { moment: 0, command }
 }
 
@@ -223,7 +225,8 @@ pub(crate) fn commands_of(alloc: Global, document: &str) -> Result<Vec<Event>, F
     Ok(commands_over(alloc, Shared::new(alloc, api)?, false)?)
 }
 
-fn serve_by<R: Wait, C: Conn>(
+/// Serves one connection by the one seat of a session behind these commands.
+pub(crate) fn serve_by<R: Wait, C: Conn>(
     rt: &R,
     alloc: Global,
     plan: &Plan,
@@ -247,6 +250,7 @@ fn word(event: &Event) -> &'static str {
     match event {
         Event::Admin { .. } => "",
         Event::Enter { .. } => "enter ",
+        Event::Admit { .. } => "admit ",
         Event::Leave { .. } => "leave ",
     }
 }

@@ -68,7 +68,7 @@ const ROWS: &'static [Row] = &[
         ..DONE
     },
     Row {
-        lines: "api 0 pets {\"version\":1,\"resources\":{\"/\":{\"GET\":{\"apiKeyRequired\":true,\"integration\":{\"type\":\"MOCK\"}}}}}\ndeploy 0 hello\n",
+        lines: "api 0 pets {\"version\":1,\"authorizers\":{\"t\":{\"header\":\"h\",\"uri\":\"http://localhost:1/\"}},\"resources\":{\"/\":{\"GET\":{\"authorizer\":\"t\",\"integration\":{\"type\":\"MOCK\"}}}}}\ndeploy 0 hello\n",
         said: "refused line 1 NotBuilt at ~\n",
         status: 1,
         ..DONE

@@ -7,11 +7,18 @@ use std::test::Fail;
 /// A path, and what it is.
 type Asked = (&'static str, &'static str);
 
-const PATHS: [Asked; 29] = [
+const PATHS: [Asked; 58] = [
     ("apis/hello", "document hello"),
     ("apis/hello/text", "template hello"),
     ("apis/hello/deployments", "deployments hello"),
     ("apis/hello/stages/test", "stage hello test"),
+    ("apis/hello/stages/test/canary", "canary hello test"),
+    ("apis/hello/stages/test/promote", "promote hello test"),
+    ("keys/ann", "key ann"),
+    ("plans/basic", "plan basic"),
+    ("plans/basic/keys/ann", "plan key basic ann"),
+    ("plans/basic/keys/ann/grant", "grant basic ann"),
+    ("plans/basic/keys/ann/usage", "usage basic ann"),
     ("shutdown", "shutdown"),
     // A parameter is taken as it is written, whatever its bytes.
     ("apis/a%2Fb", "document a%2Fb"),
@@ -21,6 +28,11 @@ const PATHS: [Asked; 29] = [
     ("apis/text/text", "template text"),
     ("apis/stages/stages/stages", "stage stages stages"),
     ("apis/shutdown", "document shutdown"),
+    ("keys/keys", "key keys"),
+    ("plans/keys", "plan keys"),
+    ("plans/keys/keys/grant", "plan key keys grant"),
+    ("plans/grant/keys/usage/usage", "usage grant usage"),
+    ("apis/stages/stages/canary/canary", "canary stages canary"),
     // A segment more or less, or one without a byte.
     ("", "none"),
     ("/", "none"),
@@ -33,12 +45,29 @@ const PATHS: [Asked; 29] = [
     ("apis/hello/stages/", "none"),
     ("apis//stages/test", "none"),
     ("apis/hello/stages/test/more", "none"),
+    ("apis/hello/stages//canary", "none"),
+    ("apis/hello/stages/test/canary/", "none"),
+    ("keys", "none"),
+    ("keys/", "none"),
+    ("keys/ann/", "none"),
+    ("keys/ann/usage", "none"),
+    ("plans//keys/ann", "none"),
+    ("plans/basic/keys", "none"),
+    ("plans/basic/keys/", "none"),
+    ("plans/basic/keys//usage", "none"),
+    ("plans/basic/keys/ann/grant/1", "none"),
     ("shutdown/", "none"),
     ("/shutdown", "none"),
     // Another literal.
     ("APIS/hello", "none"),
     ("apis/hello/Text", "none"),
     ("apis/hello/texts", "none"),
+    ("apis/hello/keys/ann", "none"),
+    ("plans/basic/stages/test", "none"),
+    ("keys/ann/keys/ann", "none"),
+    ("apis/hello/stages/test/grant", "none"),
+    ("plans/basic/keys/ann/canary", "none"),
+    ("key/ann", "none"),
     ("shutdow", "none"),
 ];
 
@@ -49,6 +78,23 @@ fn told(alloc: Global, path: &AdminPath) -> Result<String, Memory> {
         AdminPath::Deployments { api } => format!(in alloc; "deployments {}", api.as_str())?,
         AdminPath::Stage { api, stage } => {
             format!(in alloc; "stage {} {}", api.as_str(), stage.as_str())?
+        }
+        AdminPath::Canary { api, stage } => {
+            format!(in alloc; "canary {} {}", api.as_str(), stage.as_str())?
+        }
+        AdminPath::Promote { api, stage } => {
+            format!(in alloc; "promote {} {}", api.as_str(), stage.as_str())?
+        }
+        AdminPath::Key { key } => format!(in alloc; "key {}", key.as_str())?,
+        AdminPath::Plan { plan } => format!(in alloc; "plan {}", plan.as_str())?,
+        AdminPath::PlanKey { plan, key } => {
+            format!(in alloc; "plan key {} {}", plan.as_str(), key.as_str())?
+        }
+        AdminPath::Grant { plan, key } => {
+            format!(in alloc; "grant {} {}", plan.as_str(), key.as_str())?
+        }
+        AdminPath::Usage { plan, key } => {
+            format!(in alloc; "usage {} {}", plan.as_str(), key.as_str())?
         }
         AdminPath::Shutdown => String::from_str(alloc, "shutdown")?,
     })

@@ -1,5 +1,5 @@
 use Rattle.std.proofs.Common.{List, [], ℕ, map, Bor, sym, ◌∙◌}
-use Rattle.book_rules.specs.Good.{all_stages}
+use Rattle.book_rules.specs.PlanStages.{all_stages}
 use Rattle.book_opening.proofs.Reading.{stage_more, stages_all}
 use Rattle.book_opening.proofs.plan_stages.read_all.Goals as goal
 

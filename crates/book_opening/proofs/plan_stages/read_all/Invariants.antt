@@ -1,7 +1,7 @@
 use Rattle.std.proofs.Common.{◌≡◌, ℕ, List, ◌++◌, map, drop}
 use Rattle.std.specs.Borrow.{Bor}
 use Rattle.std.specs.Option.{option_map}
-use Rattle.book_rules.specs.Good.{all_stages}
+use Rattle.book_rules.specs.PlanStages.{all_stages}
 use Rattle.book_opening.proofs.plan_stages.read_all.Given as goal
 
 -- the stages so far, and those of the fields that are left, are those of all

@@ -1,5 +1,5 @@
 use Rattle.std.proofs.Common.{◌≡◌, drop}
-use Rattle.book_rules.specs.Good.{stages_differ}
+use Rattle.book_rules.specs.PlanStages.{stages_differ}
 use Rattle.book_opening.proofs.plan_stages.stages_differ.Given as goal
 
 -- whether all stages differ is whether those of the rest do

@@ -5,7 +5,7 @@ use Rattle.gate_serve.proofs.Asking.{asked_in_vain, asked_none, asked_nothing, a
 use Rattle.gate_serve.proofs.Doing.{did_nothing, goes_out}
 use Rattle.gate_serve.specs.declared.called.Called.TheVariants as called
 use Rattle.gate_walk.specs.Acts.{Act, tell_closing}
-use Rattle.gate_walk.specs.Walk.{Call, follows, leaves}
+use Rattle.gate_walk.specs.Walk.{Call, leaves, performs}
 use Rattle.gate_walk.proofs.Ways.{leaving_asks_none}
 use Rattle.method_answers.specs.Outcomes.{outcome_made}
 use Rattle.method_answers.specs.Plans.{exchanges}
@@ -21,7 +21,7 @@ returns-in-Memory-clause-walked g c =
     let e = c.exchange-outcome.ensures in (
       [],
       did_nothing c.args.seat c.requires.own,
-      (follows c.args.message.now (exchanges x.request (outcome_made x.passes x.call)), refl),
+      (performs c.args.message.now (exchanges x.request (outcome_made x.passes x.call)), refl),
       refl,
       asked_in_vain old new x.request c.exchange-outcome.result c.in-Memory.is e.sent e.given e.script,
     )

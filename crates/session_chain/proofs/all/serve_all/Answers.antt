@@ -45,7 +45,7 @@ returns-then-not-follows-clause-ended g c =
       refl,
       sym is.0,
       sym (ap (λ t. is_ok t && has_next s.ends s.history) is.1) ∙ seen,
-      lines_with c.args.limits c.args.book.base first archived before i.full s archive (g.A.Archive.sessions c.finish.new.archive) written (g.S.Sink.written c.tell-told.new.output) going held is.2 (on_ok c.tell-told.result (Appends written (g.S.Sink.written c.tell-told.new.output) (session_line s.history)) (ap is_ok is.1) c.tell-told.ensures.all),
+      lines_with c.args.limits c.args.book.base first archived before i.full s archive (g.A.Archive.sessions c.finish.new.archive) written (g.S.Sink.written c.tell-told.new.output) going held is.2 (on_ok c.tell-told.result (Appends written (g.S.Sink.written c.tell-told.new.output) (session_line s.base.opening s.history)) (ap is_ok is.1) c.tell-told.ensures.all),
     )) c.finish.ensures.ended
 
 pub returns-then-not-follows-clause-refused : goal.returns-then-not-follows-clause-refused
@@ -103,7 +103,7 @@ returns-in-Err-follow-clause-refused g c =
     let going : Going c.args.limits c.args.book.base first archived before i.full s.base s.before archive written = subst (λ b. Going c.args.limits c.args.book.base first archived before i.full b lanes archive written) (sym c.in-Ok.ensures.base) i.going in
     let held : WasHeld s = record { session = c.in-Ok.ensures.session; keeps = c.follow.ensures.keeps } in
     let seen : (is_ok c.tell-told.result && has_next s.ends s.history) ≡ true = ap (λ e. is_ok c.tell-told.result && has_next e s.history) (sym c.deref.ensures.value) ∙ ap (λ h. is_ok c.tell-told.result && has_next c.deref.result.now h) (sym c.history.ensures) ∙ sym c.follows.ensures ∙ c.if-not-follows.false in
-    let told_whole = on_ok c.tell-told.result (Appends written (g.S.Sink.written c.tell-told.new.output) (session_line s.history)) (first_of_and (is_ok c.tell-told.result) (has_next s.ends s.history) seen) c.tell-told.ensures.all in
+    let told_whole = on_ok c.tell-told.result (Appends written (g.S.Sink.written c.tell-told.new.output) (session_line s.base.opening s.history)) (first_of_and (is_ok c.tell-told.result) (has_next s.ends s.history) seen) c.tell-told.ensures.all in
     refused_by c.in-Err-follow.fault _ _ (λ fault is. (
       i.full,
       s,
@@ -140,7 +140,7 @@ loop-preserved g c =
     let held : WasHeld s = record { session = c.in-Ok.ensures.session; keeps = c.follow.ensures.keeps } in
     let seen : (is_ok c.tell-told.result && has_next s.ends s.history) ≡ true = ap (λ e. is_ok c.tell-told.result && has_next e s.history) (sym c.deref.ensures.value) ∙ ap (λ h. is_ok c.tell-told.result && has_next c.deref.result.now h) (sym c.history.ensures) ∙ sym c.follows.ensures ∙ c.if-not-follows.false in
     let has : has_next s.ends s.history ≡ true = second_of_and (is_ok c.tell-told.result) (has_next s.ends s.history) seen in
-    let told_whole = on_ok c.tell-told.result (Appends written (g.S.Sink.written c.tell-told.new.output) (session_line s.history)) (first_of_and (is_ok c.tell-told.result) (has_next s.ends s.history) seen) c.tell-told.ensures.all in
+    let told_whole = on_ok c.tell-told.result (Appends written (g.S.Sink.written c.tell-told.new.output) (session_line s.base.opening s.history)) (first_of_and (is_ok c.tell-told.result) (has_next s.ends s.history) seen) c.tell-told.ensures.all in
     record {
       full = i.full ++ s ∷ [];
       number = as_many_lanes told c.loop.lanes.items c.serve_session.new.lanes.items (as_many book.base 1 lanes now c.in-Ok.served.1.items book.history c.in-Ok.ensures.session.lanes) ∙ i.number;

@@ -3,6 +3,10 @@ use Rattle.std.proofs.lemmas.Grind.{common_steps}
 use Rattle.keeper_core.specs.Held.{Held}
 use Rattle.book_rules.specs.History.{Base}
 use Rattle.book_opening.specs.Ready.{AreReady}
+use Rattle.book_rules.specs.Fits.{AreFit}
+use Rattle.book_core.specs.Books.{counts_of}
+use Rattle.book_core.proofs.Counted.{counts_of-none}
+use Rattle.book_core.proofs.Fitting.{opens_fit}
 use Rattle.book_core.specs.Starts.{StartFails, FailsAt, is_store_fault}
 use Rattle.book_core.proofs.Starting.{by_load, fails_by, keeps_first, stands_first}
 use Rattle.book_core.proofs.book.Book.start.Goals as goal
@@ -26,6 +30,8 @@ invariant_of-result g c =
       good = c.in-Ok-open.ensures.good;
       stands = c.in-Ok-stand.ensures.stands ∙ stands_first base.opening c.in-Ok-stand.history.items c.in-Ok-stand.ensures.empty;
       ready = subst (λ l. AreReady l c.in-Ok-stand.current.ready) (sym lists) (subst (λ r. AreReady c.in-Ok.tables.lists r) (sym c.in-Ok-stand.ensures.ready) c.in-Ok-open.ensures.ready);
+      fits = subst (λ s. AreFit s.lists s.latest) (sym c.in-Ok-stand.ensures.stands) (opens_fit c.in-Ok.tables.lists c.in-Ok-open.ensures.good);
+      counted = c.none.ensures ∙ sym (counts_of-none base.opening) ∙ ap (counts_of base.opening) (sym c.in-Ok-stand.ensures.empty);
       keeps = keeps_first base c.in-Ok-stand.history.items now c.in-Ok-stand.ensures.empty (ap g.K.Keeper.facts c.of-started.ensures)
           (c.in-Ok.ensures.staged ∙ c.requires.nothing_staged)
           (subst (λ t. IfSome t (λ l. c.in-Ok.tables.lists ≡ l)) (sym c.in-Ok.ensures.tables) c.in-Ok.ensures.loaded);

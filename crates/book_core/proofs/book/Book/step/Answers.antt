@@ -4,13 +4,16 @@ use Rattle.std.proofs.lemmas.Grind.{common_steps}
 use Rattle.std.proofs.lemmas.List.Sums.{sum_by-append}
 use Rattle.book_rules.proofs.Histories.{state_after-more}
 use Rattle.book_rules.proofs.Times.{reply_in_time, opens_in_time}
-use Rattle.book_rules.specs.History.{Base, Answers, state_after, size, is_full, reply}
+use Rattle.book_rules.specs.Fits.{AreFit}
+use Rattle.book_rules.specs.History.{Base, Answers, state_after, tables_after, size, is_full, reply, rewrites}
 use Rattle.book_rules.specs.Machine.{after, row_of, outcome_of, told}
 use Rattle.book_rules.specs.Times.{IsInTime}
 use Rattle.book_rules.specs.declared.events.Entry.{Entry}
 use Rattle.book_rules.specs.declared.replies.Reply.TheVariants.{Store}
 use Rattle.gw_base.specs.Outside.{Rose}
-use Rattle.book_core.specs.Books.{Keeps}
+use Rattle.book_core.specs.Books.{Keeps, counted_with, counts_of, replied}
+use Rattle.book_core.proofs.Counted.{AreFew, counts_at, counts_of-more, few_of}
+use Rattle.book_core.proofs.FitsAfter.{fits_after}
 use Rattle.book_core.specs.Keeps.{Went}
 use Rattle.book_core.specs.Standing.{standing}
 use Rattle.book_core.proofs.Stepping.{keeps_more, answers_at}
@@ -25,18 +28,66 @@ invariant_of-self-2 g c =
     let items : c.push.new.self.items ≡ history ++ entry ∷ [] = rw c.unwrap.ensures at c.push.ensures.items in
     let before = g.K.Keeper.facts c.self.inside.keeper in
     let now = g.K.Keeper.facts c.take-taken.new.keeper in
-    let went = subst (λ s. Went (row_of s c.args.event) c.in-Ok.taken.kept before now) c.self.invariant.stands c.in-Ok.ensures.keeper in
+    let went = subst (λ s. Went (rewrites c.args.event) (row_of s c.args.event) c.in-Ok.taken.kept before now) c.self.invariant.stands c.in-Ok.ensures.keeper in
     record {
       good = c.self.invariant.good;
       stands = c.in-Ok.ensures.stands c.args.seat ∙ ap (λ s. after s entry) c.self.invariant.stands
           ∙ sym (state_after-more base.opening history entry) ∙ ap (state_after base.opening) (sym items);
       ready = c.in-Ok.ensures.ready;
+      fits = subst (λ s. AreFit s.lists s.latest) (sym (c.in-Ok.ensures.stands c.args.seat)) (fits_after (standing c.self.inside.current) c.args.event c.in-Ok.taken.kept c.self.invariant.fits);
+      counted =
+          c.with-self-inside.ensures
+          ∙ ap (λ k. counted_with c.args.event c.in-Ok.taken.reply c.in-Ok.taken.kept k) c.self.invariant.counted
+          ∙ ap (λ r. counted_with c.args.event r c.in-Ok.taken.kept (counts_of base.opening history)) c.in-Ok.ensures.reply
+          ∙ counts_at (standing c.self.inside.current) c.len-entries.result c.args.event c.in-Ok.taken.kept (counts_of base.opening history)
+          ∙ ap (λ s. counted_with c.args.event (replied s entry) c.in-Ok.taken.kept (counts_of base.opening history)) c.self.invariant.stands
+          ∙ sym (counts_of-more base.opening history entry) ∙ ap (counts_of base.opening) (sym items);
       keeps = subst (λ h. Keeps base h now) (sym items) (keeps_more base history entry before now c.self.invariant.keeps went);
       bytes_are = rw items (grind (arith, common_steps, sum_by-append (λ (e : Entry). size e.event) history (entry ∷ [])));
       within = grind (arith, common_steps);
       entries = grind (arith, common_steps);
       reserved = grind (arith, common_steps);
     }
+
+pub with-self-inside-requires-clause-calls : goal.with-self-inside-requires-clause-calls
+with-self-inside-requires-clause-calls g c =
+    let history = c.self.inside.history.items in
+    let few : AreFew c.self.inside.counts (length history) = subst (λ k. AreFew k (length history)) (sym c.self.invariant.counted) (few_of c.self.inside.opening.lists history) in
+    let l = few.calls in
+    let e = c.self.invariant.entries in
+    grind (arith, common_steps, l, e)
+
+pub with-self-inside-requires-clause-admitted : goal.with-self-inside-requires-clause-admitted
+with-self-inside-requires-clause-admitted g c =
+    let history = c.self.inside.history.items in
+    let few : AreFew c.self.inside.counts (length history) = subst (λ k. AreFew k (length history)) (sym c.self.invariant.counted) (few_of c.self.inside.opening.lists history) in
+    let l = few.admitted in
+    let e = c.self.invariant.entries in
+    grind (arith, common_steps, l, e)
+
+pub with-self-inside-requires-clause-throttled : goal.with-self-inside-requires-clause-throttled
+with-self-inside-requires-clause-throttled g c =
+    let history = c.self.inside.history.items in
+    let few : AreFew c.self.inside.counts (length history) = subst (λ k. AreFew k (length history)) (sym c.self.invariant.counted) (few_of c.self.inside.opening.lists history) in
+    let l = few.throttled in
+    let e = c.self.invariant.entries in
+    grind (arith, common_steps, l, e)
+
+pub with-self-inside-requires-clause-quota : goal.with-self-inside-requires-clause-quota
+with-self-inside-requires-clause-quota g c =
+    let history = c.self.inside.history.items in
+    let few : AreFew c.self.inside.counts (length history) = subst (λ k. AreFew k (length history)) (sym c.self.invariant.counted) (few_of c.self.inside.opening.lists history) in
+    let l = few.quota in
+    let e = c.self.invariant.entries in
+    grind (arith, common_steps, l, e)
+
+pub with-self-inside-requires-clause-not_kept : goal.with-self-inside-requires-clause-not_kept
+with-self-inside-requires-clause-not_kept g c =
+    let history = c.self.inside.history.items in
+    let few : AreFew c.self.inside.counts (length history) = subst (λ k. AreFew k (length history)) (sym c.self.invariant.counted) (few_of c.self.inside.opening.lists history) in
+    let l = few.not_kept in
+    let e = c.self.invariant.entries in
+    grind (arith, common_steps, l, e)
 
 pub returns-clause-taken : goal.returns-clause-taken
 returns-clause-taken g c =
@@ -46,7 +97,7 @@ returns-clause-taken g c =
     let items : c.push.new.self.items ≡ history ++ entry ∷ [] = rw c.unwrap.ensures at c.push.ensures.items in
     let before = g.K.Keeper.facts c.self.inside.keeper in
     let now = g.K.Keeper.facts c.take-taken.new.keeper in
-    let went = subst (λ s. Went (row_of s c.args.event) c.in-Ok.taken.kept before now) c.self.invariant.stands c.in-Ok.ensures.keeper in
+    let went = subst (λ s. Went (rewrites c.args.event) (row_of s c.args.event) c.in-Ok.taken.kept before now) c.self.invariant.stands c.in-Ok.ensures.keeper in
     let answer : c.in-Ok.taken.reply ≡ reply base.opening history c.args.event c.in-Ok.taken.kept =
     subst (λ s. c.in-Ok.taken.reply ≡ told (is_some (row_of s c.args.event)) (outcome_of s (length history) c.args.event).reply c.in-Ok.taken.kept) c.self.invariant.stands
     (c.in-Ok.ensures.reply ∙ ap (λ n. told (is_some (row_of (standing c.self.inside.current) c.args.event)) (outcome_of (standing c.self.inside.current) n c.args.event).reply c.in-Ok.taken.kept) (search rules)) in
@@ -67,4 +118,4 @@ returns-clause-time g c =
 pub returns-clause-store : goal.returns-clause-store
 returns-clause-store g c =
     subst (λ k. c.in-Ok.taken.reply ≡ Store → Rose (g.K.Keeper.facts k).faults (g.K.Keeper.facts c.take-taken.new.keeper).faults) (ap (λ v. v.keeper) c.self.view_is)
-    (rose (standing c.self.inside.current) _ c.args.event c.in-Ok.taken.kept c.in-Ok.taken.reply _ (g.K.Keeper.facts c.self.inside.keeper) (g.K.Keeper.facts c.take-taken.new.keeper) c.in-Ok.ensures.reply c.in-Ok.ensures.keeper)
+    (rose (standing c.self.inside.current) _ c.args.event (rewrites c.args.event) c.in-Ok.taken.kept c.in-Ok.taken.reply _ (g.K.Keeper.facts c.self.inside.keeper) (g.K.Keeper.facts c.take-taken.new.keeper) c.in-Ok.ensures.reply c.in-Ok.ensures.keeper)

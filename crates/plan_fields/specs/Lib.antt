@@ -1,0 +1,2 @@
+-- the fields of a plan
+pub mod Fields

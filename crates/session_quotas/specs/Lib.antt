@@ -1,0 +1,2 @@
+-- quotas and refusals over whole sessions
+pub mod Quotas

@@ -1,0 +1,13 @@
+//! Tests of two lanes that meet: each has a call to a method over HTTP, and stands at the gate before its exchange with nothing of the
+//! book in its hands.
+//!
+//! | Module | Shows |
+//! |---|---|
+//! | `meetings` | both lanes of a session enter before either leaves, each asks its backend once, and is answered |
+//! | `pets` | the tables that the tests stand on |
+#![tactic(auto)]
+
+#[cfg(test)]
+mod meetings;
+#[cfg(test)]
+mod pets;

@@ -4,10 +4,15 @@
 //! | Module | Shows |
 //! |---|---|
 //! | `meetings` | both lanes of a session enter before either leaves, each asks its backend once, and is answered |
-//! | `pets` | the tables that the tests stand on |
+//! | `runs` | the same of the two lanes that the command `serve` is lent |
+//! | `lanes`, `pets` | the lanes and the tables that the tests stand on |
 #![tactic(auto)]
 
+#[cfg(test)]
+mod lanes;
 #[cfg(test)]
 mod meetings;
 #[cfg(test)]
 mod pets;
+#[cfg(test)]
+mod runs;

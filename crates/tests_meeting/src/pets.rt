@@ -6,7 +6,7 @@ use std::alloc::Global;
 const DOCUMENT: &str =
     r#"{"version":1,"resources":{"/p":{"GET":{"integration":{"type":"HTTP","method":"GET","uri":"http://127.0.0.1:9002/p","responses":[{"status":200}]}}}}}"#;
 
-fn text(alloc: Global, from: &str) -> Result<Text, Memory> {
+pub(crate) fn text(alloc: Global, from: &str) -> Result<Text, Memory> {
     Ok(Text::of(String::from_str(alloc, from)?))
 }
 

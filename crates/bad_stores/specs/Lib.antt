@@ -1,0 +1,2 @@
+-- when a store is refused
+pub mod Laws

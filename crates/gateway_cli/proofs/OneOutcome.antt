@@ -11,8 +11,10 @@ use Rattle.http_framing.specs.declared.fault.EdgeFault.{EdgeFault}
 use Rattle.gate_walk.specs.Told.{ComesToOneThing}
 use Rattle.play_script.specs.Calls.{HasStatus, IsWhole, IsOther, IsNoWhole, IsNoReply, IsOutcome, IsNoOutcome, AreOutcomes, BreaksOutcomes}
 use Rattle.play_script.specs.Coding.{is_passed_over}
-use Rattle.command_words.specs.declared.commands.Command.TheVariants.{Play}
+use Rattle.command_words.specs.declared.commands.Command.TheVariants.{Play, Load}
 use Rattle.gateway_cli.specs.Commands.{Outcome, OutcomeFront, HasOneOutcome, FrontsAreOfTheOutcome}
+use Rattle.load_command.specs.Lines.{call_lines}
+use Rattle.load_command.specs.Loading.{Behind, GoesOn as LoadGoesOn, LoadedFront, LoadedWithin, Loads, load_lines, told_by}
 use Rattle.outside_core.specs.Files.{Files}
 use Rattle.play_script.specs.Play.{Turn, Output, before, talked, IsTalk, Does, DoesOrNot, PassesOrDoes, IsTurn, GoesOn, Plays, IsFront, GoesOnInFront, PlaysFront, PlayedBy, Played, OpenedFrontBy, PlayedFrontBy, PlayedFront, opening_of, session_limits}
 use Rattle.play_session.specs.Sessions.{base_of}
@@ -90,6 +92,11 @@ goes_once : (ends : Option End) (text : List ℕ) (further : Output → Type 0) 
 goes_once None text further once a b (rest, plays, is) (other, also, told) = is ∙ ap (before text) (once rest other plays also) ∙ sym told
 goes_once (Some end) text further once a b x y = x ∙ sym y
 
+load_goes_once : (ends : Option End) (now : Turn) (further : Behind → Type 0) (once : (p q : Behind) → further p → further q → p ≡ q) (a b : Behind)
+    → LoadGoesOn ends now further a → LoadGoesOn ends now further b → a ≡ b
+load_goes_once None now further once a b x y = once a b x y
+load_goes_once (Some end) now further once a b x y = x ∙ sym y
+
 -- fronts
 
 front_of_more : (front text more : List ℕ) → IsFront front text → IsFront front (text ++ more)
@@ -161,7 +168,24 @@ module _ (law : ComesToOneThing) (base : Base) (told : IsSome base.start.planned
       (λ more rest holds plays. plays_front_once (number + 1) now.history lines more rest holds plays)
       (subst (λ (t : Turn). GoesOn t.ends t.text (Plays base (number + 1) t.history lines) a) same went) behind
 
+  -- loads
+
+  loads_once : (number : ℕ) (history : List Entry) (lines : List (List ℕ)) (a b : Behind) → Loads base number history lines a → Loads base number history lines b → a ≡ b
+  loads_once number history [] a b x y = x ∙ sym y
+  loads_once number history (line ∷ lines) a b (now, turn, goes) (then_, also, went) =
+      let same = turn_once number history line then_ now also turn in
+      load_goes_once now.ends now (Loads base (number + 1) now.history lines) (λ p q. loads_once (number + 1) now.history lines p q) a b goes
+      (subst (λ (t : Turn). LoadGoesOn t.ends t (Loads base (number + 1) t.history lines) b) same went)
+
 -- scripts and commands
+
+loaded_once : ComesToOneThing → (seed calls : ℕ) (a b : Output) → LoadedWithin session_limits seed calls a → LoadedWithin session_limits seed calls b → a ≡ b
+loaded_once law seed calls a b (behind, loads, is) (other, also, is_too) =
+    is ∙ ap (λ (s : Behind). told_by calls s.history s.stopped) (loads_once law (base_of session_limits []) refl 1 [] (load_lines seed calls) behind other loads also) ∙ sym is_too
+
+loaded_front_by : ComesToOneThing → (seed calls : ℕ) (front : List ℕ) (a : Output) → LoadedWithin session_limits seed calls a → LoadedFront session_limits seed calls front → IsFront front a.text
+loaded_front_by law seed calls front a loads (inl none) = (a.text, ap (λ f. f ++ a.text) none)
+loaded_front_by law seed calls front a loads (inr (output, also, is)) = subst (λ (o : Output). IsFront front o.text) (loaded_once law seed calls output a also loads) is
 
 played_by_once : ComesToOneThing → (long : Bool) (script : List ℕ) (a b : Output) → PlayedBy long script a → PlayedBy long script b → a ≡ b
 played_by_once law true script a b x y = x ∙ sym y
@@ -179,9 +203,11 @@ played_front_by law false script front a plays f =
 pub one_outcome : ComesToOneThing → HasOneOutcome
 unfolding Outcome Played
 one_outcome law (Some Play) input files a b x y = played_by_once law _ input a b x y
+one_outcome law (Some (Load seed calls)) input files a b x y = loaded_once law seed calls a b x y
 one_outcome law other input files a b x y = x ∙ sym y
 
 pub fronts_of_the_outcome : ComesToOneThing → FrontsAreOfTheOutcome
 unfolding Outcome OutcomeFront Played PlayedFront
 fronts_of_the_outcome law (Some Play) input files a front x f = played_front_by law _ input front a x f
+fronts_of_the_outcome law (Some (Load seed calls)) input files a front x f = loaded_front_by law seed calls front a x f
 fronts_of_the_outcome law other input files a front x f = subst (λ (o : Output). IsFront front o.text) (sym x) f

@@ -2,10 +2,11 @@
 use Rattle.std.specs.Prelude.{◌≡◌, ℕ, Bool, true, false, ◌||◌, List, ◌++◌, codes, Option, Some, None}
 use Rattle.std.specs.Option.{is_some}
 use Rattle.command_words.specs.declared.commands.Command.{Command}
-use Rattle.command_words.specs.declared.commands.Command.TheVariants.{Play, Render, Check, Serve, Admin}
+use Rattle.command_words.specs.declared.commands.Command.TheVariants.{Play, Render, Check, Serve, Admin, Load}
 use Rattle.gateway_cli.specs.Check.{check_of}
+use Rattle.load_command.specs.Loading.{LoadedFront, LoadedWithin}
 use Rattle.outside_core.specs.Files.{Files}
-use Rattle.play_script.specs.Play.{Output, Played, PlayedFront, FailsToLoad, IsFront}
+use Rattle.play_script.specs.Play.{Output, Played, PlayedFront, FailsToLoad, IsFront, session_limits}
 use Rattle.play_script.specs.Printed.{line_feed}
 use Rattle.gateway_cli.specs.Render.{render_of}
 
@@ -19,6 +20,7 @@ abbrev pub is_plain : Option Command → Bool
 is_plain (Some Play) = true
 is_plain (Some (Render template body)) = true
 is_plain (Some (Check name)) = true
+is_plain (Some (Load seed calls)) = true
 is_plain other = false
 
 -- what is to be served: the store, the port and the number of lanes
@@ -39,7 +41,7 @@ reads_input command = is_play command || is_some (administered command)
 abbrev pub usage : Output
 usage = record { text = codes "usage" ++ line_feed; status = 2 }
 
--- what is printed of these files where no play is asked for, and nothing is to be served or administered
+-- what is printed of these files where neither a play nor a load is asked for, and nothing is to be served or administered
 abbrev pub over_files : Files → Option Command → Output
 over_files files (Some (Render template body)) = render_of files template body
 over_files files (Some (Check name)) = check_of files name
@@ -48,11 +50,13 @@ over_files files other = usage
 -- what the program prints of this input and these files where this is asked for, and nothing is to be served or administered
 unfoldable pub Outcome : Option Command → List ℕ → Files → Output → Type 0
 Outcome (Some Play) input files output = Played input output
+Outcome (Some (Load seed calls)) input files output = LoadedWithin session_limits seed calls output
 Outcome other input files output = output ≡ over_files files other
 
 -- and a front of it, where it is cut short
 unfoldable pub OutcomeFront : Option Command → List ℕ → Files → List ℕ → Type 0
 OutcomeFront (Some Play) input files front = PlayedFront input front
+OutcomeFront (Some (Load seed calls)) input files front = LoadedFront session_limits seed calls front
 OutcomeFront other input files front = IsFront front (over_files files other).text
 
 -- a play is asked for, and the script tells the load of its keeper to fail

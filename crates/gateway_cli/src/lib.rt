@@ -5,7 +5,7 @@
 //! `play` reads a script from the input and plays it over an empty book, as `play_script` says it; `render TEMPLATE BODY`
 //! prints what the template of the one file gives over the body of the other; `check FILE` tells whether the file is a
 //! definition of an API; `admin STORE` carries out the commands that stand on the input over the tables of a store, as
-//! `admin_command` says it; `serve STORE PORT LANES` serves sessions over so many lanes at a port of the loopback and over the
+//! `admin_command` says it; `load SEED N` plays so many calls that a seed makes up, as `load_command` says it; `serve STORE PORT LANES` serves sessions over so many lanes at a port of the loopback and over the
 //! tables of a store, one behind another where each is full, as `serve_command` says it, and prints a line for each.
 //!
 //! ```text
@@ -64,6 +64,7 @@ mod command;
 mod files;
 pub mod laws;
 mod limits;
+mod loading;
 mod program;
 mod render;
 mod requests;

@@ -10,7 +10,7 @@ ghost use Rattle.gateway_cli.specs.Commands.{Outcome, OutcomeFront, TellsLoadToF
 ghost use Rattle.gateway_cli.specs.Admin.{Administered, AdminWantsMemory, AdminFaulted};
 ghost use Rattle.play_script.specs.Play.{Played, PlayedFront, FailsToLoad, SaysFront, is_command_status, session_limits};
 ghost use Rattle.gateway_cli.specs.Render.{render_of};
-ghost use Rattle.gateway_cli.specs.Top.{OfTold, Answered, Says, Faulted, ServeFaulted, play_stopped_by};
+ghost use Rattle.gateway_cli.specs.Top.{OfTold, Answered, Says, Faulted, ServeFaulted};
 ghost use Rattle.serve_command.specs.Serving.{Ends};
 ghost use Rattle.serve_command.specs.Shelves.{Shelves, AllIsBack};
 
@@ -19,8 +19,9 @@ use crate::check::check_within;
 use crate::command::{asked_in, store_in};
 use crate::files::{document_in, files_in};
 use crate::limits::{SCRIPT_LIMIT, SESSION_LIMITS};
+use crate::loading::load;
 use crate::render::judge;
-use crate::say::{say, say_fault};
+use crate::say::{say, say_fault, stop_of_play};
 use crate::serving::serve;
 use crate::stopped::Stopped;
 use book_rules::Entry;
@@ -28,21 +29,10 @@ use command_words::{Command, read_words};
 use gate_ports::Port;
 use gw_base::{ReadAll, Sink, Source, Text, read_all};
 use outside_core::Outside;
-use play_script::{PlayStop, play_within};
+use play_script::play_within;
 use std::alloc::Global;
 use std::sync::Wait;
 use std::thread::Threads;
-
-// Why the program stops where a play does.
-fn stop_of(stop: PlayStop) -> Stopped
-    ensures { result ≡ play_stopped_by stop }
-{
-    match stop {
-        PlayStop::Keeper => Stopped::Keeper,
-        PlayStop::Output => Stopped::Output,
-        PlayStop::Memory => Stopped::Memory,
-    }
-}
 
 // Plays a script that was read.
 fn play_script<W: Sink, R: Wait>(
@@ -63,7 +53,7 @@ fn play_script<W: Sink, R: Wait>(
 {
     match play_within(rt, alloc, SESSION_LIMITS, script, output) {
         Ok(status) => Ok(status),
-        Err(stop) => Err(stop_of(stop)),
+        Err(stop) => Err(stop_of_play(stop)),
     }
 }
 
@@ -173,6 +163,7 @@ fn respond<I: Source, W: Sink, O: Outside<Entry>, R: Wait>(
     output: &mut W,
     outside: &mut O,
 ) -> Result<u8, Stopped>
+    requires within { IfSome command.now IsWithin }
     ensures answered { IfOk result (λ status. OfTold (I.left input.old) (λ script. OfTold (O.files outside.old) (λ files.
         Says (W.written output.old) (W.written output.new) (Outcome command.now script files) status))) }
     ensures front { OnErr result (OfTold (I.left input.old) (λ script. OfTold (O.files outside.old) (λ files.
@@ -197,6 +188,7 @@ fn respond<I: Source, W: Sink, O: Outside<Entry>, R: Wait>(
             render(alloc, template.as_str(), body.as_str(), output, outside)
         }
         Some(Command::Check { name }) => check(alloc, name.as_str(), output, outside),
+        Some(Command::Load { seed, calls }) => load(rt, alloc, *seed, *calls, output),
         _ => say_usage(output),
     }
 }
@@ -210,6 +202,7 @@ fn answer<I: Source, W: Sink, O: Outside<Entry>, R: Wait>(
     output: &mut W,
     outside: &mut O,
 ) -> u8
+    requires within { IfSome command.now IsWithin }
     ensures exact { result ≢ 3 → result ≢ 5 → OfTold (I.left input.old) (λ script. OfTold (O.files outside.old) (λ files.
         Says (W.written output.old) (W.written output.new) (Outcome command.now script files) result)) }
     ensures memory { result ≡ 5 → OfTold (I.left input.old) (λ script. OfTold (O.files outside.old) (λ files.

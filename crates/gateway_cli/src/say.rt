@@ -3,10 +3,11 @@ ghost use Rattle.std.specs.Prelude.{◌≡◌, ◌≢◌, ◌≤◌, IfOk, OnOk,
 ghost use Rattle.std.specs.Io.KnownBytes.{Appends};
 ghost use Rattle.gw_base.specs.Outside.{Rose};
 ghost use Rattle.gw_base.specs.Whole.{AppendsFront};
-ghost use Rattle.gateway_cli.specs.Top.{stopped_by};
+ghost use Rattle.gateway_cli.specs.Top.{play_stopped_by, stopped_by};
 
 use crate::stopped::Stopped;
 use gw_base::{Sink, WriteStop, write_all};
+use play_script::PlayStop;
 
 /// Why the program stops where a write was refused.
 pub fn stop_of(stop: WriteStop) -> Stopped
@@ -15,6 +16,17 @@ pub fn stop_of(stop: WriteStop) -> Stopped
     match stop {
         WriteStop::Failed => Stopped::Output,
         WriteStop::Memory => Stopped::Memory,
+    }
+}
+
+/// Why the program stops where a play or a load does.
+pub fn stop_of_play(stop: PlayStop) -> Stopped
+    ensures { result ≡ play_stopped_by stop }
+{
+    match stop {
+        PlayStop::Keeper => Stopped::Keeper,
+        PlayStop::Output => Stopped::Output,
+        PlayStop::Memory => Stopped::Memory,
     }
 }
 

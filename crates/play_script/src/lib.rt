@@ -34,7 +34,7 @@
 //! A definition is put where it is stated and all of it is built, which says `taken` of `specs/Definitions.antt`: a document with a
 //! method that has an authorizer is `NotBuilt` ([`needs_unbuilt`] is exactly that). [`join`] puts parts of a line together. Fields are coded and read by `record_fields`. The lines of a script, their records and
 //! what is printed of a command stand apart ([`first_line`], [`record_in`], [`take_document`], [`take_text`], [`reply_line`], [`refuse`]): the command `admin` takes
-//! them too.
+//! them too; and so does a line by itself ([`play_line`]), of which the command `load` makes up many.
 #![tactic(auto)]
 
 mod calls;
@@ -53,7 +53,7 @@ mod stages;
 mod stops;
 mod turns;
 
-pub use calls::refuse;
+pub use calls::{play_line, refuse};
 pub use definitions::{needs_unbuilt, take_document, take_text};
 pub use fields::{first_line, is_passed_over};
 pub use joining::join;

@@ -13,8 +13,8 @@ returns-in-Err-clause-front g c = plays_front c.args.script.now _ _ _ refl c.req
 
 pub returns-in-Err-clause-keeper : goal.returns-in-Err-clause-keeper
 returns-in-Err-clause-keeper g c =
-    λ e. told_by_script c.args.script.now c.in-Err.stop c.stop_of.result c.requires c.stop_of.ensures (λ s. c.in-Err.ensures.keeper (cc s)) (cc e)
+    λ e. told_by_script c.args.script.now c.in-Err.stop c.stop_of_play.result c.requires c.stop_of_play.ensures (λ s. c.in-Err.ensures.keeper (cc s)) (cc e)
 
 pub returns-in-Err-clause-loaded : goal.returns-in-Err-clause-loaded
 returns-in-Err-clause-loaded g c =
-    λ e. not_told_by_script c.args.script.now c.in-Err.stop c.stop_of.result c.stop_of.ensures (λ s. c.in-Err.ensures.loaded (cc s)) (cc e)
+    λ e. not_told_by_script c.args.script.now c.in-Err.stop c.stop_of_play.result c.stop_of_play.ensures (λ s. c.in-Err.ensures.loaded (cc s)) (cc e)

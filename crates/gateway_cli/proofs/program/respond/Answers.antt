@@ -1,7 +1,7 @@
 use Rattle.std.proofs.Common.{◌≡◌, true, false, [], rules}
 use Rattle.gateway_cli.specs.Commands.{is_play}
 use Rattle.gateway_cli.proofs.Inputs.{of_any, of_each, if_ok_map, on_err_map}
-use Rattle.gateway_cli.proofs.ByCommand.{front_is, of_play, of_play_front, of_other, of_other_front, of_usage, of_usage_front, of_unloaded}
+use Rattle.gateway_cli.proofs.ByCommand.{is_fixed, front_is, of_play, of_play_front, of_other, of_other_front, of_usage, of_usage_front, of_load, of_load_front, of_unloaded}
 use Rattle.gateway_cli.proofs.program.respond.Goals as goal
 
 pub returns-in-Some-Play-clause-answered : goal.returns-in-Some-Play-clause-answered
@@ -39,7 +39,8 @@ returns-in-Some-Render-clause-front g c = of_other_front (g.I.Source.left c.args
 pub returns-in-Some-Render-clause-loaded : goal.returns-in-Some-Render-clause-loaded
 returns-in-Some-Render-clause-loaded g c =
     let other : is_play c.args.command.now ≡ false = search rules in
-    λ e. of_unloaded (g.I.Source.left c.args.input.now) (g.O.Outside.files c.args.outside.now) c.args.command.now _ _ c.render.result _ e (of_other_front (g.I.Source.left c.args.input.now) (g.O.Outside.files c.args.outside.now) c.args.command.now _ _ c.render.result c.render.ensures.front (λ files. search rules) other) other
+    let fixed : is_fixed c.args.command.now ≡ true = search rules in
+    λ e. of_unloaded (g.I.Source.left c.args.input.now) (g.O.Outside.files c.args.outside.now) c.args.command.now _ _ c.render.result _ e (of_other_front (g.I.Source.left c.args.input.now) (g.O.Outside.files c.args.outside.now) c.args.command.now _ _ c.render.result c.render.ensures.front (λ files. search rules) fixed) other
 
 pub returns-in-Some-Check-clause-answered : goal.returns-in-Some-Check-clause-answered
 returns-in-Some-Check-clause-answered g c = of_other (g.I.Source.left c.args.input.now) (g.O.Outside.files c.args.outside.now) c.args.command.now _ _ c.check.result c.check.ensures.answered (λ files. search rules) (search rules)
@@ -50,7 +51,8 @@ returns-in-Some-Check-clause-front g c = of_other_front (g.I.Source.left c.args.
 pub returns-in-Some-Check-clause-loaded : goal.returns-in-Some-Check-clause-loaded
 returns-in-Some-Check-clause-loaded g c =
     let other : is_play c.args.command.now ≡ false = search rules in
-    λ e. of_unloaded (g.I.Source.left c.args.input.now) (g.O.Outside.files c.args.outside.now) c.args.command.now _ _ c.check.result _ e (of_other_front (g.I.Source.left c.args.input.now) (g.O.Outside.files c.args.outside.now) c.args.command.now _ _ c.check.result c.check.ensures.front (λ files. search rules) other) other
+    let fixed : is_fixed c.args.command.now ≡ true = search rules in
+    λ e. of_unloaded (g.I.Source.left c.args.input.now) (g.O.Outside.files c.args.outside.now) c.args.command.now _ _ c.check.result _ e (of_other_front (g.I.Source.left c.args.input.now) (g.O.Outside.files c.args.outside.now) c.args.command.now _ _ c.check.result c.check.ensures.front (λ files. search rules) fixed) other
 
 pub returns-in_default-clause-answered : goal.returns-in_default-clause-answered
 returns-in_default-clause-answered g c = of_usage (g.I.Source.left c.args.input.now) (g.O.Outside.files c.args.outside.now) c.args.command.now _ _ c.say_usage.result c.say_usage.ensures.answered (λ files. search rules) (search rules)
@@ -61,4 +63,17 @@ returns-in_default-clause-front g c = of_usage_front (g.I.Source.left c.args.inp
 pub returns-in_default-clause-loaded : goal.returns-in_default-clause-loaded
 returns-in_default-clause-loaded g c =
     let other : is_play c.args.command.now ≡ false = search rules in
-    λ e. of_unloaded (g.I.Source.left c.args.input.now) (g.O.Outside.files c.args.outside.now) c.args.command.now _ _ c.say_usage.result _ e (of_usage_front (g.I.Source.left c.args.input.now) (g.O.Outside.files c.args.outside.now) c.args.command.now _ _ c.say_usage.result c.say_usage.ensures.front (λ files. search rules) other) other
+    let fixed : is_fixed c.args.command.now ≡ true = search rules in
+    λ e. of_unloaded (g.I.Source.left c.args.input.now) (g.O.Outside.files c.args.outside.now) c.args.command.now _ _ c.say_usage.result _ e (of_usage_front (g.I.Source.left c.args.input.now) (g.O.Outside.files c.args.outside.now) c.args.command.now _ _ c.say_usage.result c.say_usage.ensures.front (λ files. search rules) fixed) other
+
+pub returns-in-Some-Load-clause-answered : goal.returns-in-Some-Load-clause-answered
+returns-in-Some-Load-clause-answered g c = of_load (g.I.Source.left c.args.input.now) (g.O.Outside.files c.args.outside.now) c.args.command.now _ _ _ _ c.load.result (search rules) c.load.ensures.answered
+
+pub returns-in-Some-Load-clause-front : goal.returns-in-Some-Load-clause-front
+returns-in-Some-Load-clause-front g c = of_load_front (g.I.Source.left c.args.input.now) (g.O.Outside.files c.args.outside.now) c.args.command.now _ _ _ _ c.load.result (search rules) c.load.ensures.front
+
+pub returns-in-Some-Load-clause-loaded : goal.returns-in-Some-Load-clause-loaded
+returns-in-Some-Load-clause-loaded g c =
+    let other : is_play c.args.command.now ≡ false = search rules in
+    λ e. of_unloaded (g.I.Source.left c.args.input.now) (g.O.Outside.files c.args.outside.now) c.args.command.now _ _ c.load.result _ e
+    (of_load_front (g.I.Source.left c.args.input.now) (g.O.Outside.files c.args.outside.now) c.args.command.now _ _ _ _ c.load.result (search rules) c.load.ensures.front) other

@@ -1,0 +1,4 @@
+-- how a load goes on
+mod Going
+-- a call behind another
+mod Calling

@@ -899,8 +899,34 @@ def broken_clients_harm_no_other(server):
 
 
 def words_that_are_no_command_end_with_2(server):
-    for words in ((), ("bogus",), ("serve",), ("serve", "s", "1"), ("serve", "s", "port", "4"), ("admin",), ("admin", "-s")):
+    for words in ((), ("bogus",), ("serve",), ("serve", "s", "1"), ("serve", "s", "port", "4"), ("admin",), ("admin", "-s"), ("load", "7"), ("load", "7", "0")):
         expect(f"status and output of {words}", server.run(*words), (2, b"usage\n"))
+
+
+def summary_of(seed, calls):
+    """What a load comes to, reckoned anew: the words of SplitMix64, a bucket of 10 that gets 5 a second and 1,000 a day for each of eight keys."""
+    state, counts, keys = seed, {"admitted": 0, "throttled": 0, "quota": 0, "canary": 0}, {}
+    for number in range(calls):
+        state = (state + 0x9E3779B97F4A7C15) % 2**64
+        word = (state ^ state >> 30) * 0xBF58476D1CE4E5B9 % 2**64
+        word = (word ^ word >> 27) * 0x94D049BB133111EB % 2**64
+        word ^= word >> 31
+        moment, key = 10 * number + (word >> 8) % 10, word % 8
+        counts["canary"] += (word >> 16) % 10000 < 2500
+        level, at, used = keys.get(key, (10000, 0, 0))
+        level = min(10000, level + 5 * (moment - at))
+        reply = "throttled" if level < 1000 else "quota" if used == 1000 else "admitted"
+        counts[reply] += 1
+        if reply == "admitted":
+            keys[key] = (level - 1000, moment, used + 1)
+    lines = [f"calls={calls} " + " ".join(f"{name}={count}" for name, count in counts.items())]
+    lines += [f"k{key} used={keys[key][2]} remaining={1000 - keys[key][2]}" if key in keys else f"k{key} none" for key in range(8)]
+    return ("\n".join(lines) + "\n").encode()
+
+
+def loads_come_to_what_they_are_reckoned_to(server):
+    for seed, calls in ((0, 1), (7, 20_000), (7, 20_000), (2**64 - 1, 300_000)):
+        expect(f"a load of {calls} by {seed}", server.run("load", str(seed), str(calls)), (0, summary_of(seed, calls)))
 
 
 def the_program_still_runs(server):
@@ -934,6 +960,7 @@ TESTS = [
     the_examples_do_what_stands_beside_them,
     broken_clients_harm_no_other,
     words_that_are_no_command_end_with_2,
+    loads_come_to_what_they_are_reckoned_to,
     the_program_still_runs,
 ]
 

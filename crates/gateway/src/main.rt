@@ -35,6 +35,7 @@ const USAGE: &[u8] = b"usage: gateway COMMAND
   play                      plays the script on standard input
   check FILE                tells whether a file is the definition of an API
   render TEMPLATE BODY      prints what a template gives over a body
+  load SEED N               plays 1 to 300000 calls that a seed makes up, and prints their summary
 ";
 
 fn main(rt: HostRuntime) -> ExitCode {

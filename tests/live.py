@@ -929,6 +929,71 @@ def loads_come_to_what_they_are_reckoned_to(server):
         expect(f"a load of {calls} by {seed}", server.run("load", str(seed), str(calls)), (0, summary_of(seed, calls)))
 
 
+def field(text):
+    """A field of a script."""
+    return b"".join(b"%c" % byte if 33 <= byte <= 126 and byte != 37 else b"%%%02X" % byte for byte in text) or b"~"
+
+
+def plays(server, what, lines, wanted, status=0):
+    """A script prints this."""
+    expect(what, server.run("play", lines=b"\n".join(lines) + b"\n"), (status, b"".join(line + b"\n" for line in wanted)))
+
+
+def a_message_that_is_cut_anywhere_makes_no_answer(server):
+    """Every front of a request but the empty one."""
+    made = [b"text 0 hello Hi%20$input.body!", b"deploy 0 hello", b"stage 0 hello v1 1"]
+    fronts = range(1, len(CALL))
+    lines = made + [b"call 0 0 " + field(CALL[:count]) for count in fronts]
+    plays(server, "the fronts of a call", lines, [b"done", b"deployed 1", b"done", *(b"ended Cut(%d)" % count for count in fronts)])
+
+
+def a_change_that_is_lost_at_any_call_of_the_keeper_is_told(server):
+    """Six commands and a keyed call, with each of the keeper's calls failing: each command is two calls behind the load, the keyed call one."""
+    lines = [b"api 0 keyed " + field(KEYED), b"deploy 0 keyed", b"stage 0 keyed v1 1", b"key 0 k1 kk on", b"plan 0 p - 3:0:DAY keyed/v1", b"join 0 p k1"]
+    lines += [b"call 0 0 " + field(KEYED_CALL % b"kk")]
+    done = [b"done", b"deployed 1", b"done", b"done", b"done", b"done"]
+    called = [
+        own_answer(b"403 Forbidden", b"UNKNOWN_STAGE", b"Unknown stage"),
+        own_answer(b"403 Forbidden", b"INVALID_API_KEY", b"Forbidden"),
+        own_answer(b"500 Internal Server Error", b"STORE_FAILURE", b"Store unavailable"),
+        proxied(b"200 OK", b"k1"),
+    ]
+    lost = [
+        ([b"store", b"refused NoApi", b"refused NoApi", b"done", b"refused NoStage", b"refused NoPlan"], called[0]),
+        ([b"done", b"store", b"refused NoDeployment", b"done", b"refused NoStage", b"refused NoPlan"], called[0]),
+        ([b"done", b"deployed 1", b"store", b"done", b"refused NoStage", b"refused NoPlan"], called[0]),
+        ([b"done", b"deployed 1", b"done", b"store", b"done", b"refused NoKey"], called[1]),
+        ([b"done", b"deployed 1", b"done", b"done", b"store", b"refused NoPlan"], called[1]),
+        ([b"done", b"deployed 1", b"done", b"done", b"done", b"store"], called[1]),
+    ]
+    plays(server, "with a load that fails", [b"keepfails 0", *lines], [b"fault keeper"], 3)
+    for number in range(1, 15):
+        said, answer = lost[(number - 1) // 2] if number <= 12 else (done, called[2 if number == 13 else 3])
+        plays(server, f"with call {number} failing", [b"keepfails %d" % number, *lines], [*said, b"answer " + field(answer), b"ended Closed"])
+
+
+def an_exchange_that_comes_to_nothing_is_told(server):
+    """A backend that cannot be reached, one that is silent, and one behind the last outcome; each is asked once."""
+    document = b'{"version":1,"resources":{"/p":{"GET":{"integration":{"type":"HTTP","method":"GET","uri":"http://127.0.0.1:9002/p","responses":[{"status":200}]}}}}}'
+    call = b"call 0 0 " + field(b"GET /p/v1/p HTTP/1.1\r\nhost: localhost\r\n\r\n")
+    sent = b"sent " + field(b"GET /p HTTP/1.1\r\nhost: 127.0.0.1:9002\r\ncontent-type: application/json\r\nconnection: close\r\ncontent-length: 0\r\n\r\n")
+    failed = own_answer(b"504 Gateway Timeout", b"INTEGRATION_FAILURE", b"Network error communicating with endpoint")
+    lapsed = own_answer(b"504 Gateway Timeout", b"INTEGRATION_TIMEOUT", b"Endpoint request timed out")
+    lines, wanted = [b"api 0 p " + field(document), b"deploy 0 p", b"stage 0 p v1 1"], [b"done", b"deployed 1", b"done"]
+    for outcome, answer in ((b" !failed", failed), (b" !lapsed", lapsed), (b"", failed)):
+        lines += [call + outcome]
+        wanted += [sent, b"answer " + field(answer), b"ended Closed"]
+    plays(server, "outcomes that are none", lines, wanted)
+
+
+def a_body_of_ten_million_brackets_is_refused(server):
+    """It is nested deeper than a document may be, and is refused before any model is asked."""
+    body = b"[" * 10_485_760
+    with Client(server.port) as client:
+        asked = book(body)
+        client.calls("to ten million brackets", asked, own_answer(b"400 Bad Request", b"BAD_REQUEST_BODY", b"Invalid request body"))
+
+
 def the_program_still_runs(server):
     expect("status", server.process.poll(), None)
 
@@ -961,6 +1026,10 @@ TESTS = [
     broken_clients_harm_no_other,
     words_that_are_no_command_end_with_2,
     loads_come_to_what_they_are_reckoned_to,
+    a_message_that_is_cut_anywhere_makes_no_answer,
+    a_change_that_is_lost_at_any_call_of_the_keeper_is_told,
+    an_exchange_that_comes_to_nothing_is_told,
+    a_body_of_ten_million_brackets_is_refused,
     the_program_still_runs,
 ]
 

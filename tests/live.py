@@ -977,10 +977,8 @@ def an_exchange_that_comes_to_nothing_is_told(server):
     document = b'{"version":1,"resources":{"/p":{"GET":{"integration":{"type":"HTTP","method":"GET","uri":"http://127.0.0.1:9002/p","responses":[{"status":200}]}}}}}'
     call = b"call 0 0 " + field(b"GET /p/v1/p HTTP/1.1\r\nhost: localhost\r\n\r\n")
     sent = b"sent " + field(b"GET /p HTTP/1.1\r\nhost: 127.0.0.1:9002\r\ncontent-type: application/json\r\nconnection: close\r\ncontent-length: 0\r\n\r\n")
-    failed = own_answer(b"504 Gateway Timeout", b"INTEGRATION_FAILURE", b"Network error communicating with endpoint")
-    lapsed = own_answer(b"504 Gateway Timeout", b"INTEGRATION_TIMEOUT", b"Endpoint request timed out")
     lines, wanted = [b"api 0 p " + field(document), b"deploy 0 p", b"stage 0 p v1 1"], [b"done", b"deployed 1", b"done"]
-    for outcome, answer in ((b" !failed", failed), (b" !lapsed", lapsed), (b"", failed)):
+    for outcome, answer in ((b" !failed", FAILED), (b" !lapsed", LAPSED), (b"", FAILED)):
         lines += [call + outcome]
         wanted += [sent, b"answer " + field(answer), b"ended Closed"]
     plays(server, "outcomes that are none", lines, wanted)

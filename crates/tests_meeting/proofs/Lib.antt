@@ -1,1 +1,1 @@
-mod Two
+mod Lanes

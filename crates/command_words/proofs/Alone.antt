@@ -1,12 +1,12 @@
 -- A command has its words alone.
-use Rattle.std.proofs.Common.{◌≡◌, ◌≤◌, ℕ, nat_le, Bool, true, false, cond, ◌&&◌, List, [], ◌∷◌, codes, bytes_eq, Option, Some, None, IfSome, refl, ap, subst, leb-true}
-use Rattle.std.specs.Option.{option_and_then, option_map, option_or}
+use Rattle.std.proofs.Common.{◌≡◌, ◌≤◌, ℕ, nat_le, Bool, true, false, cond, ◌&&◌, List, [], ◌∷◌, codes, bytes_eq, Option, Some, None, IfSome, refl, ap, subst, ◌∙◌, leb-true}
+use Rattle.std.specs.Option.{option_and_then, option_map, option_or, option_zip}
 use Rattle.std.proofs.lemmas.Bool.{and_parts}
 use Rattle.std.proofs.lemmas.Slice.Eq.{bytes_eq-Decides}
 use Rattle.record_fields.specs.Numbers.{number_of}
-use Rattle.command_words.specs.Commands.{CommandsHaveTheirWords, IsAskedBy, IsWithin, admin_store, asked_of, check_name, command_of, in_range, is_argument, is_play, number_to, play_of, render_names, render_of, serve_asked, serve_of}
+use Rattle.command_words.specs.Commands.{CommandsHaveTheirWords, IsAskedBy, IsWithin, admin_store, asked_of, check_name, command_of, in_range, is_argument, is_play, load_asked, load_of, number_to, play_of, render_names, render_of, serve_asked, serve_of}
 use Rattle.command_words.specs.declared.commands.Command.{Command}
-use Rattle.command_words.specs.declared.commands.Command.TheVariants.{Play, Render, Check, Serve, Admin}
+use Rattle.command_words.specs.declared.commands.Command.TheVariants.{Play, Render, Check, Serve, Admin, Load}
 
 some_same : {X : Type 0} {x y : X} → Some x ≡ Some y → x ≡ y
 some_same e = cc
@@ -16,6 +16,11 @@ asked_serve : (words : List (List ℕ)) (command : Command) (o : Option (List �
     → option_or (option_map serve_of o) None ≡ Some command → IsAskedBy words command
 asked_serve words command None e f = absurd cc
 asked_serve words command (Some (store, port, lanes)) e f = subst (IsAskedBy words) (some_same f) e
+
+asked_load : (words : List (List ℕ)) (command : Command) (o : Option (ℕ × ℕ)) → load_asked words ≡ o
+    → option_map load_of o ≡ Some command → IsAskedBy words command
+asked_load words command None e f = absurd cc
+asked_load words command (Some (seed, calls)) e f = subst (IsAskedBy words) (some_same f) e
 
 asked : (words : List (List ℕ)) (command : Command) → command_of words ≡ Some command → IsAskedBy words command
 unfolding command_of
@@ -28,7 +33,8 @@ asked (name ∷ []) command e = by (bytes_eq name (codes "play")) refl e
 asked (name ∷ only ∷ []) command e = by (bytes_eq name (codes "check")) refl (bytes_eq name (codes "admin")) refl (is_argument only) refl e
   where
     by : (v : Bool) → bytes_eq name (codes "check") ≡ v → (w : Bool) → bytes_eq name (codes "admin") ≡ w → (x : Bool) → is_argument only ≡ x
-        → option_or (option_map Check (cond (v && x) (Some only) None)) (option_map Admin (cond (w && x) (Some only) None)) ≡ Some command → IsAskedBy (name ∷ only ∷ []) command
+        → option_or (option_map Check (cond (v && x) (Some only) None)) (option_or (option_map Admin (cond (w && x) (Some only) None)) None) ≡ Some command
+        → IsAskedBy (name ∷ only ∷ []) command
     by true a w b true d f = subst (IsAskedBy (name ∷ only ∷ [])) (some_same f) (rw (a, d) refl)
     by false a true b true d f = subst (IsAskedBy (name ∷ only ∷ [])) (some_same f) (rw (b, d) refl)
     by false a false b true d f = absurd cc
@@ -36,22 +42,23 @@ asked (name ∷ only ∷ []) command e = by (bytes_eq name (codes "check")) refl
     by true a false b false d f = absurd cc
     by false a true b false d f = absurd cc
     by false a false b false d f = absurd cc
-asked (name ∷ template ∷ body ∷ []) command e = by (bytes_eq name (codes "render") && (is_argument template && is_argument body)) refl e
+asked (name ∷ first ∷ second ∷ []) command e = by (bytes_eq name (codes "render") && (is_argument first && is_argument second)) refl e
   where
-    by : (v : Bool) → (bytes_eq name (codes "render") && (is_argument template && is_argument body)) ≡ v
-        → option_or (option_map render_of (cond v (Some (template, body)) None)) None ≡ Some command → IsAskedBy (name ∷ template ∷ body ∷ []) command
-    by true is f = subst (IsAskedBy (name ∷ template ∷ body ∷ [])) (some_same f) (rw is refl)
-    by false is f = absurd cc
+    by : (v : Bool) → (bytes_eq name (codes "render") && (is_argument first && is_argument second)) ≡ v
+        → option_or (option_map render_of (cond v (Some (first, second)) None)) (option_map load_of (load_asked (name ∷ first ∷ second ∷ []))) ≡ Some command
+        → IsAskedBy (name ∷ first ∷ second ∷ []) command
+    by true is f = subst (IsAskedBy (name ∷ first ∷ second ∷ [])) (some_same f) (rw is refl)
+    by false is f = asked_load (name ∷ first ∷ second ∷ []) command (load_asked (name ∷ first ∷ second ∷ [])) refl f
 asked (name ∷ store ∷ port ∷ lanes ∷ []) command e =
     asked_serve (name ∷ store ∷ port ∷ lanes ∷ []) command (serve_asked (name ∷ store ∷ port ∷ lanes ∷ [])) refl e
 asked (name ∷ store ∷ port ∷ lanes ∷ more ∷ words) command e = absurd cc
 
 -- a name is one
-apart : (name : List ℕ) → (bytes_eq name (codes "check") && bytes_eq name (codes "admin")) ≡ false
-apart name = by (bytes_eq name (codes "check")) refl
+apart : (name one other : List ℕ) → bytes_eq one other ≡ false → (bytes_eq name one && bytes_eq name other) ≡ false
+apart name one other differ = by (bytes_eq name one) refl
   where
-    by : (v : Bool) → bytes_eq name (codes "check") ≡ v → (v && bytes_eq name (codes "admin")) ≡ false
-    by true e = ap (λ n. bytes_eq n (codes "admin")) ((bytes_eq-Decides name (codes "check")).0 e)
+    by : (v : Bool) → bytes_eq name one ≡ v → (v && bytes_eq name other) ≡ false
+    by true e = ap (λ n. bytes_eq n other) ((bytes_eq-Decides name one).0 e) ∙ differ
     by false e = refl
 
 -- and are asked for by them
@@ -66,14 +73,14 @@ unfolding command_of
 render_asks [] template body e = absurd cc
 render_asks (name ∷ []) template body e = absurd cc
 render_asks (name ∷ a ∷ []) template body e = absurd cc
-render_asks (name ∷ a ∷ b ∷ []) template body e = ap (λ o. option_or (option_map render_of o) None) e
+render_asks (name ∷ a ∷ b ∷ []) template body e = ap (λ o. option_or (option_map render_of o) (option_map load_of (load_asked (name ∷ a ∷ b ∷ [])))) e
 render_asks (name ∷ a ∷ b ∷ other ∷ words) template body e = absurd cc
 
 check_asks : (words : List (List ℕ)) (file : List ℕ) → check_name words ≡ Some file → command_of words ≡ Some (Check file)
 unfolding command_of
 check_asks [] file e = absurd cc
 check_asks (name ∷ []) file e = absurd cc
-check_asks (name ∷ a ∷ []) file e = ap (λ o. option_or (option_map Check o) (option_map Admin (admin_store (name ∷ a ∷ [])))) e
+check_asks (name ∷ a ∷ []) file e = ap (λ o. option_or (option_map Check o) (option_or (option_map Admin (admin_store (name ∷ a ∷ []))) None)) e
 check_asks (name ∷ a ∷ other ∷ words) file e = absurd cc
 
 serve_asks : (words : List (List ℕ)) (store : List ℕ) (port lanes : ℕ) → serve_asked words ≡ Some (store, port, lanes) → command_of words ≡ Some (Serve store port lanes)
@@ -89,14 +96,30 @@ admin_asks : (words : List (List ℕ)) (store : List ℕ) → admin_store words 
 unfolding command_of
 admin_asks [] store e = absurd cc
 admin_asks (name ∷ []) store e = absurd cc
-admin_asks (name ∷ a ∷ []) store e = by (bytes_eq name (codes "check")) (bytes_eq name (codes "admin")) (is_argument a) (apart name) e
+admin_asks (name ∷ a ∷ []) store e = by (bytes_eq name (codes "check")) (bytes_eq name (codes "admin")) (is_argument a) (apart name (codes "check") (codes "admin") refl) e
   where
     by : (v w x : Bool) → (v && w) ≡ false → cond (w && x) (Some a) None ≡ Some store
-        → option_or (option_map Check (cond (v && x) (Some a) None)) (option_map Admin (cond (w && x) (Some a) None)) ≡ Some (Admin store)
+        → option_or (option_map Check (cond (v && x) (Some a) None)) (option_or (option_map Admin (cond (w && x) (Some a) None)) None) ≡ Some (Admin store)
     by true true x n f = absurd cc
     by true false x n f = absurd cc
-    by false w x n f = ap (option_map Admin) f
+    by false w x n f = ap (λ o. option_or (option_map Admin o) None) f
 admin_asks (name ∷ a ∷ other ∷ words) store e = absurd cc
+
+load_asks : (words : List (List ℕ)) (seed calls : ℕ) → load_asked words ≡ Some (seed, calls) → command_of words ≡ Some (Load seed calls)
+unfolding command_of
+load_asks [] seed calls e = absurd cc
+load_asks (name ∷ []) seed calls e = absurd cc
+load_asks (name ∷ a ∷ []) seed calls e = absurd cc
+load_asks (name ∷ a ∷ b ∷ []) seed calls e =
+    by (bytes_eq name (codes "render")) (bytes_eq name (codes "load")) (apart name (codes "render") (codes "load") refl) e
+  where
+    by : (v w : Bool) → (v && w) ≡ false → cond w (option_zip (number_of 64 a) (number_to 300000 b)) None ≡ Some (seed, calls)
+        → option_or (option_map render_of (cond (v && (is_argument a && is_argument b)) (Some (a, b)) None))
+        (option_map load_of (cond w (option_zip (number_of 64 a) (number_to 300000 b)) None)) ≡ Some (Load seed calls)
+    by true true n f = absurd cc
+    by true false n f = absurd cc
+    by false w n f = ap (option_map load_of) f
+load_asks (name ∷ a ∷ b ∷ other ∷ words) seed calls e = absurd cc
 
 asks : (words : List (List ℕ)) (command : Command) → IsAskedBy words command → command_of words ≡ Some command
 asks words Play e = play_asks words e
@@ -104,6 +127,7 @@ asks words (Render template body) e = render_asks words template body e
 asks words (Check name) e = check_asks words name e
 asks words (Serve store port lanes) e = serve_asks words store port lanes e
 asks words (Admin store) e = admin_asks words store e
+asks words (Load seed calls) e = load_asks words seed calls e
 
 pub commands_have_their_words : CommandsHaveTheirWords
 commands_have_their_words words command = (asked words command, asks words command)
@@ -142,12 +166,31 @@ serve_within (name ∷ a ∷ b ∷ c ∷ []) store port lanes e = by (bytes_eq n
     by false f = absurd cc
 serve_within (name ∷ a ∷ b ∷ c ∷ other ∷ words) store port lanes e = absurd cc
 
+zip_second : (p o : Option ℕ) (seed calls : ℕ) → option_zip p o ≡ Some (seed, calls) → o ≡ Some calls
+zip_second None o seed calls e = absurd cc
+zip_second (Some n) None seed calls e = absurd cc
+zip_second (Some n) (Some m) seed calls e =
+    let same : ◌≡◌ {A = ℕ × ℕ} (n, m) (seed, calls) = some_same e in
+    ap (λ (x : ℕ × ℕ). Some x.1) same
+
+load_within : (words : List (List ℕ)) (seed calls : ℕ) → load_asked words ≡ Some (seed, calls) → (1 ≤ calls) × (calls ≤ 300000)
+load_within [] seed calls e = absurd cc
+load_within (name ∷ []) seed calls e = absurd cc
+load_within (name ∷ a ∷ []) seed calls e = absurd cc
+load_within (name ∷ a ∷ b ∷ []) seed calls e = by (bytes_eq name (codes "load")) e
+  where
+    by : (v : Bool) → cond v (option_zip (number_of 64 a) (number_to 300000 b)) None ≡ Some (seed, calls) → (1 ≤ calls) × (calls ≤ 300000)
+    by true f = number_within 300000 (number_of 64 b) calls (zip_second (number_of 64 a) (number_to 300000 b) seed calls f)
+    by false f = absurd cc
+load_within (name ∷ a ∷ b ∷ other ∷ words) seed calls e = absurd cc
+
 one_within : (words : List (List ℕ)) (command : Command) → IsAskedBy words command → IsWithin command
 one_within words Play e = tt
 one_within words (Render template body) e = tt
 one_within words (Check name) e = tt
 one_within words (Serve store port lanes) e = serve_within words store port lanes e
 one_within words (Admin store) e = tt
+one_within words (Load seed calls) e = load_within words seed calls e
 
 pub all_within : (words : List (List ℕ)) → IfSome (command_of words) IsWithin
 all_within words = by (command_of words) refl

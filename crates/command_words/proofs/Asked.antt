@@ -1,18 +1,18 @@
 -- The words in the table are those that ask for a command, but for the numbers.
 use Rattle.std.proofs.Common.{◌≡◌, ℕ, ◌==◌, nat_le, nat_lt, ◌^◌, Bool, true, false, cond, not, ◌&&◌, ◌||◌, length, List, [], ◌∷◌, codes, bytes_eq, Option, Some, None, refl, ap, sym, subst, ◌∙◌}
 use Rattle.std.specs.List.{list_all}
-use Rattle.std.specs.Option.{option_and_then, option_map, option_or}
+use Rattle.std.specs.Option.{option_and_then, option_map, option_or, option_zip}
 use Rattle.std.proofs.lemmas.Bool.{and_parts, eqb-true}
 use Rattle.std.proofs.lemmas.Slice.Eq.{bytes_eq-Decides}
 use Rattle.clap.specs.Words.{Text, subcommand_of, takes}
 use Rattle.record_fields.specs.Numbers.{is_decimal, number_of, read_on}
-use Rattle.command_words.specs.Commands.{asked_of, command_of, in_range, is_argument, number_to, render_of, serve_of}
+use Rattle.command_words.specs.Commands.{asked_of, command_of, in_range, is_argument, load_of, number_to, render_of, serve_of}
 use Rattle.command_words.specs.Grammar.{gateway}
 use Rattle.command_words.specs.Reading.{read_in}
 use Rattle.command_words.specs.Table.{is_row}
 use Rattle.command_words.specs.declared.commands.Command.{Command}
 use Rattle.command_words.specs.declared.commands.Command.TheVariants.{Check, Admin}
-use Rattle.command_words.proofs.Rows.{admin_read, admin_taken, check_read, check_taken, play_read, play_taken, render_read, render_taken, serve_read, serve_taken}
+use Rattle.command_words.proofs.Rows.{admin_read, admin_taken, check_read, check_taken, load_read, load_taken, play_read, play_taken, render_read, render_taken, serve_read, serve_taken}
 
 is : (x y : Text) → bytes_eq x y ≡ true → x ≡ y
 is x y e = (bytes_eq-Decides x y).0 e
@@ -56,6 +56,15 @@ render_row (x ∷ a) (y ∷ b) h k =
     let f = no_flag (y == 45) k in
     (render_taken x y a b e f, render_read x y a b e f ∙ rw (e, f) refl)
 
+load_row : (first second : Text) → is_argument first ≡ true → is_argument second ≡ true → IsRead (codes "load" ∷ first ∷ second ∷ [])
+unfolding command_of
+load_row [] second h k = absurd cc
+load_row (x ∷ a) [] h k = absurd cc
+load_row (x ∷ a) (y ∷ b) h k =
+    let e = no_flag (x == 45) h in
+    let f = no_flag (y == 45) k in
+    (load_taken x y a b e f, load_read x y a b e f)
+
 serve_row : (first second third : Text) → is_argument first ≡ true → is_argument second ≡ true → is_argument third ≡ true → IsRead (codes "serve" ∷ first ∷ second ∷ third ∷ [])
 unfolding command_of
 serve_row [] second third h k l = absurd cc
@@ -79,9 +88,14 @@ rows_are_read (name ∷ only ∷ []) h =
     by true e either argument = subst (λ n. IsRead (n ∷ only ∷ [])) (sym (is name (codes "check") e)) (check_row only argument)
     by false e either argument = subst (λ n. IsRead (n ∷ only ∷ [])) (sym (is name (codes "admin") either)) (admin_row only argument)
 rows_are_read (name ∷ first ∷ second ∷ []) h =
-    let parts = and_parts (bytes_eq name (codes "render") && is_argument first) (is_argument second) h in
-    let front = and_parts (bytes_eq name (codes "render")) (is_argument first) parts.0 in
-    subst (λ n. IsRead (n ∷ first ∷ second ∷ [])) (sym (is name (codes "render") front.0)) (render_row first second front.1 parts.1)
+    let parts = and_parts ((bytes_eq name (codes "render") || bytes_eq name (codes "load")) && is_argument first) (is_argument second) h in
+    let front = and_parts (bytes_eq name (codes "render") || bytes_eq name (codes "load")) (is_argument first) parts.0 in
+    by (bytes_eq name (codes "render")) refl front.0 front.1 parts.1
+  where
+    by : (v : Bool) → bytes_eq name (codes "render") ≡ v → (v || bytes_eq name (codes "load")) ≡ true → is_argument first ≡ true → is_argument second ≡ true
+        → IsRead (name ∷ first ∷ second ∷ [])
+    by true e either h k = subst (λ n. IsRead (n ∷ first ∷ second ∷ [])) (sym (is name (codes "render") e)) (render_row first second h k)
+    by false e either h k = subst (λ n. IsRead (n ∷ first ∷ second ∷ [])) (sym (is name (codes "load") either)) (load_row first second h k)
 rows_are_read (name ∷ first ∷ second ∷ third ∷ []) h =
     let parts = and_parts (bytes_eq name (codes "serve") && is_argument first && is_argument second) (is_argument third) h in
     let front = and_parts (bytes_eq name (codes "serve") && is_argument first) (is_argument second) parts.0 in
@@ -116,6 +130,10 @@ asked_none : (store : Text) (port : Option ℕ) → asked_of store port None ≡
 asked_none store None = refl
 asked_none store (Some port) = refl
 
+zip_none : {X : Type 0} (o : Option ℕ) → option_zip {U = X} o None ≡ None
+zip_none None = refl
+zip_none (Some n) = refl
+
 -- words outside the table ask for nothing
 pub others_ask_nothing : (words : List Text) → is_row words ≡ false → None ≡ command_of words
 unfolding command_of
@@ -124,7 +142,7 @@ others_ask_nothing (name ∷ []) h = rw h refl
 others_ask_nothing (name ∷ only ∷ []) h = by (bytes_eq name (codes "check")) (bytes_eq name (codes "admin")) (is_argument only) h
   where
     by : (v w x : Bool) → ((v || w) && x) ≡ false
-        → ◌≡◌ {A = Option Command} None (option_or (option_map Check (cond (v && x) (Some only) None)) (option_map Admin (cond (w && x) (Some only) None)))
+        → ◌≡◌ {A = Option Command} None (option_or (option_map Check (cond (v && x) (Some only) None)) (option_or (option_map Admin (cond (w && x) (Some only) None)) None))
     by true true true e = absurd cc
     by true false true e = absurd cc
     by false true true e = absurd cc
@@ -133,14 +151,23 @@ others_ask_nothing (name ∷ only ∷ []) h = by (bytes_eq name (codes "check"))
     by true false false e = refl
     by false true false e = refl
     by false false false e = refl
-others_ask_nothing (name ∷ first ∷ second ∷ []) h = by (bytes_eq name (codes "render")) (is_argument first) (is_argument second) h
+others_ask_nothing (name ∷ first ∷ second ∷ []) h =
+    by (bytes_eq name (codes "render")) (bytes_eq name (codes "load")) (is_argument first) refl (is_argument second) refl h
   where
-    by : (v w x : Bool) → (v && w && x) ≡ false
-        → ◌≡◌ {A = Option Command} None (option_or (option_map render_of (cond (v && (w && x)) (Some (first, second)) None)) None)
-    by true true true e = absurd cc
-    by true true false e = refl
-    by true false x e = refl
-    by false w x e = refl
+    no_load : (w : Bool) → is_argument first ≡ w → (x : Bool) → is_argument second ≡ x → (w && x) ≡ false
+        → ◌≡◌ {A = Option Command} None (option_map load_of (option_zip (number_of 64 first) (number_to 300000 second)))
+    no_load true e true f g = absurd cc
+    no_load true e false f g = rw (none_to 300000 second f, zip_none {X = ℕ} (number_of 64 first)) refl
+    no_load false e x f g = rw (no_number first e) refl
+
+    by : (v u w : Bool) → is_argument first ≡ w → (x : Bool) → is_argument second ≡ x → ((v || u) && w && x) ≡ false
+        → ◌≡◌ {A = Option Command} None
+        (option_or (option_map render_of (cond (v && (w && x)) (Some (first, second)) None))
+        (option_map load_of (cond u (option_zip (number_of 64 first) (number_to 300000 second)) None)))
+    by true true w e x f g = let k : (w && x) ≡ false = g in rw k (no_load w e x f k)
+    by true false w e x f g = let k : (w && x) ≡ false = g in rw k refl
+    by false true w e x f g = no_load w e x f g
+    by false false w e x f g = refl
 others_ask_nothing (name ∷ first ∷ second ∷ third ∷ []) h =
     by (bytes_eq name (codes "serve")) (is_argument first) (is_argument second) refl (is_argument third) refl h
   where

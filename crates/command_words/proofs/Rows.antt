@@ -1,9 +1,10 @@
 -- What `clap` reads in the words of each row: no word that is an argument is looked into.
 use Rattle.std.proofs.Common.{◌≡◌, ℕ, ◌==◌, true, false, [], ◌∷◌, codes, Some, refl}
-use Rattle.std.specs.Option.{option_map}
+use Rattle.std.specs.Option.{option_map, option_zip}
 use Rattle.clap.specs.Words.{Text, subcommand_of, takes}
 use Rattle.clap.proofs.OnLiterals.{clap_on_literals}
-use Rattle.command_words.specs.Commands.{asked_of, number_to, serve_of}
+use Rattle.record_fields.specs.Numbers.{number_of}
+use Rattle.command_words.specs.Commands.{asked_of, load_of, number_to, serve_of}
 use Rattle.command_words.specs.Grammar.{gateway}
 use Rattle.command_words.specs.Reading.{read_in}
 use Rattle.command_words.specs.declared.commands.Command.TheVariants.{Play, Render, Check, Admin}
@@ -51,3 +52,13 @@ pub serve_read : (x y z : ℕ) (a b c : Text) → (x == 45) ≡ false → (y == 
     ≡ option_map serve_of (asked_of (x ∷ a) (number_to 65535 (y ∷ b)) (number_to 8 (z ∷ c)))
 unfolding clap_on_literals
 serve_read x y z a b c e f g = rw e (rw e (rw f (rw f (rw g (rw g refl)))))
+
+pub load_taken : (x y : ℕ) (a b : Text) → (x == 45) ≡ false → (y == 45) ≡ false → takes gateway (codes "load" ∷ (x ∷ a) ∷ (y ∷ b) ∷ []) ≡ true
+unfolding clap_on_literals
+load_taken x y a b e f = rw e (rw e (rw f (rw f refl)))
+
+pub load_read : (x y : ℕ) (a b : Text) → (x == 45) ≡ false → (y == 45) ≡ false
+    → read_in (subcommand_of gateway (codes "load" ∷ (x ∷ a) ∷ (y ∷ b) ∷ []))
+    ≡ option_map load_of (option_zip (number_of 64 (x ∷ a)) (number_to 300000 (y ∷ b)))
+unfolding clap_on_literals
+load_read x y a b e f = rw e (rw e (rw f (rw f refl)))

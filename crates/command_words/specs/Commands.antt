@@ -1,10 +1,10 @@
 -- What the words ask for.
 use Rattle.std.specs.Prelude.{◌≡◌, ◌↔◌, ℕ, ◌==◌, ◌≤◌, nat_le, Bool, true, false, not, ◌&&◌, List, [], ◌∷◌, codes, Option, Some, None, if◌then◌else◌, ⊤}
-use Rattle.std.specs.Option.{option_and_then, option_map, option_or}
+use Rattle.std.specs.Option.{option_and_then, option_map, option_or, option_zip}
 use Rattle.std.specs.Str.{bytes_eq}
 use Rattle.record_fields.specs.Numbers.{number_of}
 use Rattle.command_words.specs.declared.commands.Command.{Command}
-use Rattle.command_words.specs.declared.commands.Command.TheVariants.{Play, Render, Check, Serve, Admin}
+use Rattle.command_words.specs.declared.commands.Command.TheVariants.{Play, Render, Check, Serve, Admin, Load}
 
 -- the words are `play` alone
 abbrev pub is_play : List (List ℕ) → Bool
@@ -64,6 +64,14 @@ admin_store (word ∷ []) = None
 admin_store (word ∷ store ∷ []) = if bytes_eq word (codes "admin") && is_argument store then Some store else None
 admin_store (word ∷ store ∷ other ∷ words) = None
 
+-- the seed and the number of calls behind `load`
+abbrev pub load_asked : List (List ℕ) → Option (ℕ × ℕ)
+load_asked [] = None
+load_asked (word ∷ []) = None
+load_asked (word ∷ seed ∷ []) = None
+load_asked (word ∷ seed ∷ calls ∷ []) = if bytes_eq word (codes "load") then option_zip (number_of 64 seed) (number_to 300000 calls) else None
+load_asked (word ∷ seed ∷ calls ∷ other ∷ words) = None
+
 abbrev pub play_of : Bool → Option Command
 play_of asked = if asked then Some Play else None
 
@@ -73,13 +81,17 @@ render_of names = Render names.0 names.1
 abbrev pub serve_of : List ℕ × ℕ × ℕ → Command
 serve_of asked = Serve asked.0 asked.1 asked.2
 
+abbrev pub load_of : ℕ × ℕ → Command
+load_of asked = Load asked.0 asked.1
+
 -- what the words ask for
 unfoldable pub command_of : List (List ℕ) → Option Command
 command_of words =
     option_or (play_of (is_play words))
     (option_or (option_map render_of (render_names words))
     (option_or (option_map Check (check_name words))
-    (option_or (option_map serve_of (serve_asked words)) (option_map Admin (admin_store words)))))
+    (option_or (option_map serve_of (serve_asked words))
+    (option_or (option_map Admin (admin_store words)) (option_map load_of (load_asked words))))))
 
 -- what a command's words are
 abbrev pub IsAskedBy : List (List ℕ) → Command → Type 0
@@ -88,6 +100,7 @@ IsAskedBy words (Render template body) = render_names words ≡ Some (template, 
 IsAskedBy words (Check name) = check_name words ≡ Some name
 IsAskedBy words (Serve store port lanes) = serve_asked words ≡ Some (store, port, lanes)
 IsAskedBy words (Admin store) = admin_store words ≡ Some store
+IsAskedBy words (Load seed calls) = load_asked words ≡ Some (seed, calls)
 
 -- The words ask for a command exactly where they are the words of it; so no words ask for two.
 abbrev pub CommandsHaveTheirWords : Type 0
@@ -96,6 +109,7 @@ CommandsHaveTheirWords = (words : List (List ℕ)) (command : Command) → (comm
 -- the numbers of a command are within their bounds
 abbrev pub IsWithin : Command → Type 0
 IsWithin (Serve store port lanes) = (1 ≤ port) × (port ≤ 65535) × (1 ≤ lanes) × (lanes ≤ 8)
+IsWithin (Load seed calls) = (1 ≤ calls) × (calls ≤ 300000)
 IsWithin Play = ⊤
 IsWithin (Render template body) = ⊤
 IsWithin (Check name) = ⊤

@@ -29,7 +29,8 @@ table =
     ∷ (codes "render", codes "TEMPLATE" ∷ codes "BODY" ∷ [])
     ∷ (codes "check", codes "FILE" ∷ [])
     ∷ (codes "serve", codes "STORE" ∷ codes "PORT" ∷ codes "LANES" ∷ [])
-    ∷ (codes "admin", codes "STORE" ∷ []) ∷ []
+    ∷ (codes "admin", codes "STORE" ∷ [])
+    ∷ (codes "load", codes "SEED" ∷ codes "CALLS" ∷ []) ∷ []
 
 -- the words behind the program's name are read
 abbrev pub program : App

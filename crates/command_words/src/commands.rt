@@ -25,4 +25,9 @@ pub enum Command {
     Admin {
         store: Text,
     },
+    /// Plays so many calls that a seed makes up.
+    Load {
+        seed: u64,
+        calls: u64,
+    },
 }

@@ -9,12 +9,13 @@ use clap::error::ErrorKind;
 use clap::{Arg, ArgMatches, Command, Error};
 use std::alloc::{AllocError, Global};
 
-const TABLE: [(&str, &[&str]); 5] = [
+const TABLE: [(&str, &[&str]); 6] = [
     ("play", &[]),
     ("render", &["TEMPLATE", "BODY"]),
     ("check", &["FILE"]),
     ("serve", &["STORE", "PORT", "LANES"]),
     ("admin", &["STORE"]),
+    ("load", &["SEED", "CALLS"]),
 ];
 
 // A command with one argument more, which has to be there.

@@ -3,7 +3,7 @@ ghost use Rattle.std.specs.Prelude.{◌≡◌, IfOk, IfSome, true};
 ghost use Rattle.clap.specs.Words.{found_of, rows_of, subcommand_rows_of};
 ghost use Rattle.command_words.specs.Commands.{command_of, IsWithin};
 ghost use Rattle.command_words.specs.Grammar.{texts_of};
-ghost use Rattle.command_words.specs.Reading.{command_by as command_by_name, read_in, serve_by as serve_by_rows, word_of as word_of_rows};
+ghost use Rattle.command_words.specs.Reading.{command_by as command_by_name, load_by as load_by_rows, read_in, serve_by as serve_by_rows, word_of as word_of_rows};
 ghost use Rattle.command_words.specs.Table.{is_row as is_row_of};
 
 use crate::commands::Command;
@@ -12,6 +12,7 @@ use crate::numbers::number_to;
 use crate::table::is_row;
 use clap::ArgMatches;
 use gw_base::{Memory, Text};
+use record_fields::number;
 use std::alloc::{AllocError, Global};
 
 // The word of this name.
@@ -43,6 +44,15 @@ fn serve_by(alloc: Global, matches: &ArgMatches<'_>) -> Result<Option<Command>, 
     }
 }
 
+// A load, where the seed and the calls are numbers.
+fn load_by(matches: &ArgMatches<'_>) -> Option<Command>
+    ensures { result ≡ load_by_rows (rows_of (found_of matches.now)) }
+{
+    let seed = number(word_of(matches, "SEED").as_bytes())?;
+    let calls = number_to(300_000, word_of(matches, "CALLS"))?;
+    Some(Command::Load { seed, calls })
+}
+
 // The command of this name, with its arguments.
 fn command_by(
     alloc: Global,
@@ -64,6 +74,7 @@ fn command_by(
         "admin" => Ok(Some(Command::Admin {
             store: copied(alloc, matches, "STORE")?,
         })),
+        "load" => Ok(load_by(matches)),
         _ => Ok(None),
     }
 }

@@ -25,7 +25,9 @@ pub fn is_row(words: &[Text]) -> bool
             (name.as_str() == "check" || name.as_str() == "admin") && is_argument(only)
         }
         [name, first, second] => {
-            name.as_str() == "render" && is_argument(first) && is_argument(second)
+            (name.as_str() == "render" || name.as_str() == "load")
+                && is_argument(first)
+                && is_argument(second)
         }
         [name, first, second, third] => {
             name.as_str() == "serve"

@@ -7,7 +7,7 @@ use std::test::Fail;
 /// The words, and the command.
 type Asked = (&'static [&'static str], &'static str);
 
-const COMMANDS: [Asked; 13] = [
+const COMMANDS: [Asked; 15] = [
     (&["play"], "play"),
     (
         &["render", "page.vtl", "body.json"],
@@ -31,9 +31,14 @@ const COMMANDS: [Asked; 13] = [
     ),
     (&["admin", "store.db"], "admin store.db"),
     (&["admin", "admin"], "admin admin"),
+    (&["load", "0", "1"], "load 0 1"),
+    (
+        &["load", "18446744073709551615", "300000"],
+        "load 18446744073709551615 300000",
+    ),
 ];
 
-const NONE: [Asked; 34] = [
+const NONE: [Asked; 40] = [
     (&[], "none"),
     (&[""], "none"),
     (&["help"], "none"),
@@ -68,6 +73,12 @@ const NONE: [Asked; 34] = [
     (&["serve", "-s", "80", "1"], "none"),
     (&["admin"], "none"),
     (&["admin", "-s"], "none"),
+    (&["load", "0", "0"], "none"),
+    (&["load", "0", "300001"], "none"),
+    (&["load", "-1", "5"], "none"),
+    (&["load", "18446744073709551616", "1"], "none"),
+    (&["load", "1"], "none"),
+    (&["load", "1", "2", "3"], "none"),
 ];
 
 fn words_of(alloc: Global, words: &[&str]) -> Result<Vec<Text>, Memory> {
@@ -89,6 +100,7 @@ fn told(alloc: Global, command: &Command) -> Result<String, Memory> {
             format!(in alloc; "serve {} {port} {lanes}", store.as_str())?
         }
         Command::Admin { store } => format!(in alloc; "admin {}", store.as_str())?,
+        Command::Load { seed, calls } => format!(in alloc; "load {seed} {calls}")?,
     })
 }
 

@@ -1,5 +1,4 @@
-//! Tests of the program through `run`, and of rendering through the calls below it: scripts, connections, files and definitions
-//! with the bytes that are printed and the statuses.
+//! Tests of the program through `run`: scripts, connections, files and definitions with the bytes that are printed and the statuses.
 //!
 //! | Module | Shows |
 //! |---|---|
@@ -9,25 +8,17 @@
 //! | `checks` | documents with the lines that `check` prints |
 //! | `renders` | the command `render`: its files, limits and faults |
 //! | `roots` | the values below the roots, as the documents show them |
-//! | `cases`, `more_cases` | templates with their texts and steps, as they were computed apart from this program |
-//! | `templates` | texts with the faults of reading them, as another program gave them |
 #![tactic(auto)]
 
 #[cfg(test)]
 mod calls;
 #[cfg(test)]
-mod cases;
-#[cfg(test)]
 mod checks;
 #[cfg(test)]
 mod documents;
-#[cfg(test)]
-mod more_cases;
 #[cfg(test)]
 mod renders;
 #[cfg(test)]
 mod roots;
 #[cfg(test)]
 mod scripts;
-#[cfg(test)]
-mod templates;

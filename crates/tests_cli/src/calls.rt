@@ -1,5 +1,5 @@
 // The calls of a script: connections of any number of messages, to the byte.
-use crate::renders::outside_of;
+use crate::outsides::outside_of;
 use gateway_cli::run;
 use gw_base::{MemSink, MemSource, Text};
 use std::alloc::Global;

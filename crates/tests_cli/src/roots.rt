@@ -1,5 +1,5 @@
 // The values below the roots, as the documents show them, and the examples that use them.
-use crate::renders::{answered, outside_of, words};
+use crate::outsides::{answered, outside_of, words};
 use crate::scripts::told;
 use gw_base::{Bytes, Text};
 use record_fields::encode;

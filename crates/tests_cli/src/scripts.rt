@@ -1,6 +1,6 @@
 ghost use Rattle.std.specs.Prelude.{◌<◌};
 
-use crate::renders::{Files, outside_of};
+use crate::outsides::{Files, outside_of};
 use book_rules::Limits;
 use gateway_cli::{PlayStop, play_within, run};
 use gw_base::{MemSink, MemSource, Sink, Source, Text};

@@ -50,7 +50,7 @@ fn play_lines<R: Wait>(
     requires { length lines.now < 2 ^ 32 }
     ensures all { IfOk result (λ r. Loads session.old.base 1 session.old.history (lines_of lines.now) (record { history = session.new.history; stopped = r.stopped })) }
     ensures next { IfOk result (λ r. r.stopped ≡ None → r.next ≡ 1 + length (lines_of lines.now)) }
-    ensures within { IfOk result (λ r. r.next ≤ 2 ^ 32) }
+    ensures within { IfOk result (λ r. r.next ≤ 2 ^ 33) }
     ensures base { session.new.base ≡ session.old.base }
 {
     let mut rest = lines;
@@ -83,7 +83,7 @@ fn play_calls<R: Wait>(
     seed: u64,
     calls: u64,
 ) -> Result<Option<(Text, End)>, Memory>
-    requires first { first ≤ 2 ^ 32 }
+    requires first { first ≤ 2 ^ 33 }
     requires calls { calls ≤ 300000 }
     ensures all { IfOk result (λ stopped. Loads session.old.base first session.old.history (call_lines seed 0 calls) (record { history = session.new.history; stopped = stopped })) }
     ensures base { session.new.base ≡ session.old.base }

@@ -1,5 +1,5 @@
 -- The lines of a load: records as a script has them, which a seed makes up.
-use Rattle.std.specs.Prelude.{ℕ, suc, ◌+◌, ◌*◌, ◌/◌, ◌%◌, List, [], ◌∷◌, ◌++◌, codes}
+use Rattle.std.specs.Prelude.{ℕ, zero, suc, ◌+◌, ◌*◌, ◌/◌, ◌%◌, List, [], ◌∷◌, ◌++◌, codes}
 use Rattle.std.specs.Fmt.{decimal}
 use Rattle.gw_base.specs.Random.{next_state, word_of}
 
@@ -28,5 +28,5 @@ call_line number word =
 
 -- the lines of so many calls, the first of which has this number, by the words behind this state
 abbrev pub call_lines : ℕ → ℕ → ℕ → List (List ℕ)
-call_lines state number 0 = []
+call_lines state number zero = []
 call_lines state number (suc more) = call_line number (word_of (next_state state)) ∷ call_lines (next_state state) (number + 1) more

@@ -1,5 +1,5 @@
 -- What is printed of a load.
-use Rattle.std.specs.Prelude.{ℕ, suc, ◌+◌, ◌-◌, ◌==◌, Bool, true, false, List, [], ◌∷◌, ◌++◌, codes, count_by, Option, Some, None, if◌then◌else◌}
+use Rattle.std.specs.Prelude.{ℕ, zero, suc, ◌+◌, ◌-◌, ◌==◌, Bool, true, false, List, [], ◌∷◌, ◌++◌, codes, count_by, Option, Some, None, if◌then◌else◌}
 use Rattle.std.specs.Fmt.{decimal}
 use Rattle.std.specs.List.{concat}
 use Rattle.book_core.specs.Books.{counts_of}
@@ -53,7 +53,7 @@ key_line lists number = row_line number (join_row lists (codes "p") (key_name nu
 
 -- the lines of so many keys, the first of which has this number
 abbrev pub key_lines : Lists → ℕ → ℕ → List ℕ
-key_lines lists number 0 = []
+key_lines lists number zero = []
 key_lines lists number (suc more) = key_line lists number ++ key_lines lists (number + 1) more
 
 -- the summary of a history over these opening tables, in which so many calls were asked for

@@ -23,7 +23,7 @@ is_taken (Admit moment api stage value) = false
 is_taken (Admin moment command) = false
 is_taken (Leave status cause) = false
 
-abbrev pub is_of_canary : Entry → Bool
+unfoldable pub is_of_canary : Entry → Bool
 is_of_canary entry = is_taken entry.event
 
 -- so many calls were asked for, so many were admitted, throttled and over their quota, and so many the canary took

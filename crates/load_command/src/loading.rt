@@ -9,7 +9,7 @@ ghost use Rattle.load_command.specs.Lines.{call_lines};
 ghost use Rattle.load_command.specs.Loading.{Loads, LoadedFront, LoadedWithin, load_lines};
 
 use crate::lines::{call_line, first_lines};
-use crate::summary::summary;
+use crate::summary::sum_up;
 use book_rules::Limits;
 use gw_base::{Memory, Sink, SplitMix, Text, Words, write_all};
 use play_script::{End, PlayStop, first_line, play_line};
@@ -150,7 +150,7 @@ fn loaded<R: Wait>(
             status: status(end),
         }),
         None => Ok(Told {
-            text: summary(alloc, &book, calls)?,
+            text: sum_up(alloc, &book, calls)?,
             status: 0,
         }),
     }

@@ -13,6 +13,7 @@ use std::alloc::Global;
 
 const SHARE: u64 = 2500;
 
+#[tactic(auto, unfolding(crate::specs::Summary::is_of_canary))]
 fn is_of_canary(entry: &Entry) -> bool
     ensures { result ≡ is_of_canary_of entry.now }
 {
@@ -26,7 +27,13 @@ fn is_of_canary(entry: &Entry) -> bool
 fn count_canary(history: &[Entry]) -> usize
     ensures { result ≡ count_by is_of_canary_of history.now }
 {
-    history.iter().filter(|entry| is_of_canary(entry)).count()
+    let mut taken = 0;
+    for entry in history {
+        if is_of_canary(entry) {
+            taken += 1;
+        }
+    }
+    taken
 }
 
 #[tactic(auto, unfolding(crate::specs::Summary::counted_part))]
@@ -70,7 +77,7 @@ fn none_line(alloc: Global, number: u64) -> Result<Text, Memory>
 }
 
 fn row_line(alloc: Global, number: u64, row: Option<&JoinRow>) -> Result<Text, Memory>
-    ensures { IfOk result (λ line. line ≡ row_line_of number (option_copied row)) }
+    ensures { IfOk result (λ line. line ≡ row_line_of number (option_copied row.entry)) }
 {
     match row {
         Some(row) if row.pkind != 0 => used_line(alloc, number, row),
@@ -106,7 +113,7 @@ fn key_lines(alloc: Global, tables: &Tables) -> Result<Text, Memory>
 }
 
 /// The summary of a book's history, in which so many calls were asked for.
-pub fn summary<K: Keeper>(alloc: Global, book: &Book<K>, calls: u64) -> Result<Text, Memory>
+pub fn sum_up<K: Keeper>(alloc: Global, book: &Book<K>, calls: u64) -> Result<Text, Memory>
     ensures { IfOk result (λ text. text ≡ summary_of book.now.base.opening book.now.history calls) }
 {
     let counts = book.counts();

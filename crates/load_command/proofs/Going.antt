@@ -1,12 +1,16 @@
 -- How a load goes on, line by line.
-use Rattle.std.proofs.Common.{◌≡◌, ℕ, ◌+◌, List, [], ◌∷◌, ◌++◌, length, Option, Some, None, refl, ap, sym, ◌∙◌, subst, arith}
+use Rattle.std.proofs.Common.{◌≡◌, inr, ℕ, ◌+◌, Result, Ok, Err, IfOk, List, [], ◌∷◌, ◌++◌, length, Option, Some, None, refl, ap, sym, ◌∙◌, subst, arith}
 use Rattle.std.specs.Borrow.{Bor}
 use Rattle.book_rules.specs.History.{Base}
 use Rattle.book_rules.specs.declared.events.Entry.{Entry}
-use Rattle.play_script.specs.Coding.{lines_left}
-use Rattle.play_script.specs.Play.{IsTurn, Turn}
+use Rattle.book_rules.specs.declared.events.Limits.{Limits}
+use Rattle.gw_base.specs.Whole.{AppendsFront}
+use Rattle.play_script.specs.Coding.{lines_left, lines_of}
+use Rattle.play_script.specs.Play.{IsTurn, Output, SaysFront, Turn}
 use Rattle.play_script.specs.declared.turns.End.{End}
-use Rattle.load_command.specs.Loading.{Behind, GoesOn, Loads}
+use Rattle.play_script.proofs.Playing.{says_front}
+use Rattle.load_command.specs.Lines.{call_lines, first_lines}
+use Rattle.load_command.specs.Loading.{Behind, GoesOn, LoadedFront, LoadedWithin, Loads, load_lines}
 
 -- What the lines that are left come to is what all lines come to.
 pub record Going (base : Base) (begin : ℕ) (first : List Entry) (all : List (List ℕ)) (number : ℕ) (history : List Entry) (lines : List (List ℕ)) : Type 0 where
@@ -57,11 +61,14 @@ counted_all base begin first all number history p = omega (arith, p.counted)
 pub then_left : (left : List (List ℕ)) (line : List ℕ) (more known : Option (Bor (List ℕ))) → left ≡ line ∷ lines_left more → more ≡ known → left ≡ line ∷ lines_left known
 then_left left line more known parted is = parted ∙ ap (λ o. line ∷ lines_left o) is
 
+none_is_some : {R : Type 0} {x : R} → None ≡ Some x → ⊥
+none_is_some same = cc
+
 -- a line that did not end the load is followed by more
 goes_on : (ends : Option End) (now : Turn) (Few Many : Behind → Type 0) (middle : List Entry) (behind : Behind)
     → GoesOn ends now Few (record { history = middle; stopped = None }) → (Few (record { history = middle; stopped = None }) → Many behind) → GoesOn ends now Many behind
 goes_on None now Few Many middle behind goes more = more goes
-goes_on (Some end) now Few Many middle behind goes more = absurd cc
+goes_on (Some end) now Few Many middle behind goes more = absurd (none_is_some (ap (λ (b : Behind). b.stopped) goes))
 
 -- what ended the load does so whatever follows
 ends_there : (ends : Option End) (now : Turn) (Few Many : Behind → Type 0) (behind : Behind) → GoesOn ends now Few behind → (Few behind → Many behind) → GoesOn ends now Many behind
@@ -80,7 +87,39 @@ followed base number history (line ∷ lines) more middle behind (now, turn, goe
 -- lines behind others of which one ended the load
 pub not_reached : (base : Base) (number : ℕ) (history : List Entry) (lines more : List (List ℕ)) (middle : List Entry) (stopped : List ℕ × End)
     → Loads base number history lines (record { history = middle; stopped = Some stopped }) → Loads base number history (lines ++ more) (record { history = middle; stopped = Some stopped })
-not_reached base number history [] more middle stopped is = absurd cc
+not_reached base number history [] more middle stopped is = absurd (none_is_some (sym (ap (λ (b : Behind). b.stopped) is)))
 not_reached base number history (line ∷ lines) more middle stopped (now, turn, goes) =
     (now, turn, ends_there now.ends now (Loads base (number + 1) now.history lines) (Loads base (number + 1) now.history (lines ++ more)) (record { history = middle; stopped = Some stopped })
     goes (λ loads. not_reached base (number + 1) now.history lines more middle stopped loads))
+
+-- the first lines, and the calls behind them
+pub all_stopped : (base : Base) (history : List Entry) (first : List ℕ) (seed calls : ℕ) (middle : List Entry) (told : Option (List ℕ × End)) (stopped : List ℕ × End)
+    → first ≡ first_lines → told ≡ Some stopped → Loads base 1 history (lines_of first) (record { history = middle; stopped = told })
+    → Loads base 1 history (load_lines seed calls) (record { history = middle; stopped = Some stopped })
+all_stopped base history first seed calls middle told stopped same is loads =
+    not_reached base 1 history (lines_of first_lines) (call_lines seed 0 calls) middle stopped
+    (subst (λ f. Loads base 1 history (lines_of f) (record { history = middle; stopped = Some stopped })) same
+    (subst (λ o. Loads base 1 history (lines_of first) (record { history = middle; stopped = o })) is loads))
+
+pub all_played : (base told : Base) (history : List Entry) (first : List ℕ) (seed calls : ℕ) (middle : List Entry) (stopped : Option (List ℕ × End)) (next : ℕ) (behind : Behind)
+    → told ≡ base → first ≡ first_lines → stopped ≡ None → next ≡ 1 + length (lines_of first) → Loads base 1 history (lines_of first) (record { history = middle; stopped = stopped })
+    → Loads told next middle (call_lines seed 0 calls) behind → Loads base 1 history (load_lines seed calls) behind
+all_played base told history first seed calls middle stopped next behind of_base same none reached loads then =
+    followed base 1 history (lines_of first_lines) (call_lines seed 0 calls) middle behind
+    (subst (λ f. Loads base 1 history (lines_of f) (record { history = middle; stopped = None })) same
+    (subst (λ o. Loads base 1 history (lines_of first) (record { history = middle; stopped = o })) none loads))
+    (subst (λ n. Loads base n middle (call_lines seed 0 calls) behind) (reached ∙ ap (λ f. 1 + length (lines_of f)) same)
+    (subst (λ (b : Base). Loads b next middle (call_lines seed 0 calls) behind) of_base then))
+
+-- what an answer has, each has that follows from it
+pub if_ok_map : {A E : Type 0} (r : Result A E) (P Q : A → Type 0) → ((x : A) → P x → Q x) → IfOk r P → IfOk r Q
+if_ok_map (Ok x) P Q f h = f x h
+if_ok_map (Err e) P Q f h = tt
+
+-- a front of what is printed was written
+pub cut_short : (limits : Limits) (seed calls : ℕ) (a b : Option (List ℕ)) (text bytes : List ℕ) (status : ℕ) → bytes ≡ text
+    → LoadedWithin limits seed calls (record { text = text; status = status }) → AppendsFront a b bytes → SaysFront a b (LoadedFront limits seed calls)
+cut_short limits seed calls a b text bytes status same loads wrote =
+    let front = says_front a b text (subst (AppendsFront a b) same wrote) in
+    let output : Output = record { text = text; status = status } in
+    (front.0, inr (output, loads, front.1), front.2)

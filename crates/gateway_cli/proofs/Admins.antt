@@ -1,11 +1,10 @@
 -- Lines of commands over a script's limit, and within it.
-use Rattle.std.proofs.Common.{◌≡◌, ◌<◌, ◌≤◌, inl, inr, ℕ, Bool, true, false, nat_lt, List, length, Option, Result, Ok, Err, IfOk, OnOk, refl, sym, subst}
+use Rattle.std.proofs.Common.{◌≡◌, ◌<◌, ◌≤◌, inl, inr, ℕ, List, length, Option, Result, Ok, Err, IfOk, OnOk, sym, subst}
 use Rattle.std.specs.Io.KnownBytes.{Appends}
 use Rattle.gw_base.specs.Whole.{AppendsFront}
 use Rattle.book_rules.specs.declared.events.Limits.{Limits}
 use Rattle.play_script.specs.Coding.{lines_of}
-use Rattle.play_script.specs.Play.{script_limit, session_limits, too_long}
-use Rattle.serve_command.specs.Serving.{NotHeld}
+use Rattle.play_script.specs.Play.{session_limits, too_long}
 use Rattle.serve_command.specs.Shelves.{Shelves}
 use Rattle.admin_command.specs.Ends.{AdminEnds, IsCutShort, WantsMemory}
 use Rattle.gateway_cli.specs.Admin.{AdminCut, Administered, AdminWantsMemory, CutBy, EndsBy}

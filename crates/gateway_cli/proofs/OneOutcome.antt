@@ -13,9 +13,7 @@ use Rattle.play_script.specs.Calls.{HasStatus, IsWhole, IsOther, IsNoWhole, IsNo
 use Rattle.play_script.specs.Coding.{is_passed_over}
 use Rattle.command_words.specs.declared.commands.Command.TheVariants.{Play, Load}
 use Rattle.gateway_cli.specs.Commands.{Outcome, OutcomeFront, HasOneOutcome, FrontsAreOfTheOutcome}
-use Rattle.load_command.specs.Lines.{call_lines}
 use Rattle.load_command.specs.Loading.{Behind, GoesOn as LoadGoesOn, LoadedFront, LoadedWithin, Loads, load_lines, told_by}
-use Rattle.outside_core.specs.Files.{Files}
 use Rattle.play_script.specs.Play.{Turn, Output, before, talked, IsTalk, Does, DoesOrNot, PassesOrDoes, IsTurn, GoesOn, Plays, IsFront, GoesOnInFront, PlaysFront, PlayedBy, Played, OpenedFrontBy, PlayedFrontBy, PlayedFront, opening_of, session_limits}
 use Rattle.play_session.specs.Sessions.{base_of}
 use Rattle.play_script.specs.Records.{record_in}

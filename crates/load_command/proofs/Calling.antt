@@ -47,9 +47,11 @@ module _ (base told : Base) (same : told ≡ base) (begin : ℕ) (first : List E
       let now : Turn = record { history = after; text = text; ends = None } in
       let by_state = subst (λ s. Loads base (begin + (number + 1)) after (call_lines s (number + 1) (calls - (number + 1))) behind) reached loads in
       let by_number : begin + (number + 1) ≡ begin + number + 1 = omega arith in
-      at_call behind
-      (now, turned now (subst (λ o. IsTurn told (begin + number) history line (record { history = after; text = text; ends = o })) is turn),
-      subst (λ n. Loads base n after (call_lines (next_state state) (number + 1) (calls - (number + 1))) behind) by_number by_state)
+      at_call behind (
+        now,
+        turned now (subst (λ o. IsTurn told (begin + number) history line (record { history = after; text = text; ends = o })) is turn),
+        subst (λ n. Loads base n after (call_lines (next_state state) (number + 1) (calls - (number + 1))) behind) by_number by_state,
+      )
 
   -- a call was played, and it ended the load
   pub ended : (text : List ℕ) (after : List Entry) (ends : Option End) (end : End) → ends ≡ Some end

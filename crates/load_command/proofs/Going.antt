@@ -80,17 +80,23 @@ pub followed : (base : Base) (number : ℕ) (history : List Entry) (lines more :
     → Loads base number history lines (record { history = middle; stopped = None }) → Loads base (number + length lines) middle more behind → Loads base number history (lines ++ more) behind
 followed base number history [] more middle behind is then =
     subst (λ n. Loads base n history more behind) (omega arith) (subst (λ h. Loads base (number + 0) h more behind) (ap (λ (b : Behind). b.history) is) then)
-followed base number history (line ∷ lines) more middle behind (now, turn, goes) then =
-    (now, turn, goes_on now.ends now (Loads base (number + 1) now.history lines) (Loads base (number + 1) now.history (lines ++ more)) middle behind goes
-    (λ loads. followed base (number + 1) now.history lines more middle behind loads (subst (λ n. Loads base n middle more behind) (omega arith) then)))
+followed base number history (line ∷ lines) more middle behind (now, turn, goes) then = (
+  now,
+  turn,
+  goes_on now.ends now (Loads base (number + 1) now.history lines) (Loads base (number + 1) now.history (lines ++ more)) middle behind goes
+      (λ loads. followed base (number + 1) now.history lines more middle behind loads (subst (λ n. Loads base n middle more behind) (omega arith) then)),
+)
 
 -- lines behind others of which one ended the load
 pub not_reached : (base : Base) (number : ℕ) (history : List Entry) (lines more : List (List ℕ)) (middle : List Entry) (stopped : List ℕ × End)
     → Loads base number history lines (record { history = middle; stopped = Some stopped }) → Loads base number history (lines ++ more) (record { history = middle; stopped = Some stopped })
 not_reached base number history [] more middle stopped is = absurd (none_is_some (sym (ap (λ (b : Behind). b.stopped) is)))
-not_reached base number history (line ∷ lines) more middle stopped (now, turn, goes) =
-    (now, turn, ends_there now.ends now (Loads base (number + 1) now.history lines) (Loads base (number + 1) now.history (lines ++ more)) (record { history = middle; stopped = Some stopped })
-    goes (λ loads. not_reached base (number + 1) now.history lines more middle stopped loads))
+not_reached base number history (line ∷ lines) more middle stopped (now, turn, goes) = (
+  now,
+  turn,
+  ends_there now.ends now (Loads base (number + 1) now.history lines) (Loads base (number + 1) now.history (lines ++ more)) (record { history = middle; stopped = Some stopped })
+      goes (λ loads. not_reached base (number + 1) now.history lines more middle stopped loads),
+)
 
 -- the first lines, and the calls behind them
 pub all_stopped : (base : Base) (history : List Entry) (first : List ℕ) (seed calls : ℕ) (middle : List Entry) (told : Option (List ℕ × End)) (stopped : List ℕ × End)

@@ -1,4 +1,4 @@
-use Rattle.std.proofs.Common.{◌≡◌, ℕ, List, [], inl, inr, refl, rules}
+use Rattle.std.proofs.Common.{◌≡◌, [], inl, inr, refl, rules}
 use Rattle.gateway_cli.specs.Admin.{AdminCut, Administered, AdminWantsMemory}
 use Rattle.gateway_cli.proofs.Inputs.{of_any, of_same, of_longer, if_ok_of_longer, if_ok_map}
 use Rattle.gateway_cli.proofs.administering.carry_out_input.Goals as goal

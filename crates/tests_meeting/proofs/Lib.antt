@@ -1,1 +1,1 @@
-mod Lanes
+mod Telling

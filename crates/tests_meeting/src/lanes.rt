@@ -1,5 +1,5 @@
 // Lanes that meet before their exchanges, and what they were asked and answered.
-ghost use Rattle.std.specs.Prelude.{◌≡◌, false, All, IfOk};
+ghost use Rattle.std.specs.Prelude.{◌≡◌, false, length, All, IfOk};
 ghost use Rattle.backend_core.specs.Script.{HasReplyStatus};
 ghost use Rattle.outside_core.specs.Held.{IsUnusedLane};
 
@@ -100,7 +100,8 @@ pub(crate) fn lanes<'a, R>(
     alloc: Global,
     here: &'a Barrier,
 ) -> Result<Vec<MeetingLane<'a, R>>, Fail>
-    ensures { IfOk result (λ lanes. All IsUnusedLane lanes.items) }
+    ensures unused { IfOk result (λ lanes. All IsUnusedLane lanes.items) }
+    ensures number { IfOk result (λ lanes. length lanes.items ≡ 2) }
 {
     let cat = lane(rt, alloc, here, b"\"cat\"")?;
     let dog = lane(rt, alloc, here, b"\"dog\"")?;

@@ -1,13 +1,12 @@
 -- A store is refused exactly where a row of it is none that can be.
-use Rattle.std.proofs.Common.{◌≡◌, ◌⊎◌, inl, inr, ℕ, List, [], ◌∷◌, ◌++◌, Option, Some, None, IfSome, MatchOption, ⊥, refl, ap, sym, ◌∙◌, subst}
-use Rattle.std.specs.Io.KnownBytes.{Appends}
+use Rattle.std.proofs.Common.{◌≡◌, inl, inr, ℕ, List, Option, Some, None, IfSome, MatchOption, refl, ap, sym, ◌∙◌, subst}
 use Rattle.admin_command.specs.Ends.{AdminEnds}
 use Rattle.book_rules.specs.Good.{bad_row}
 use Rattle.book_rules.specs.declared.events.Limits.{Limits}
 use Rattle.keeper_core.specs.Lists.{Lists}
 use Rattle.keeper_core.specs.declared.table.Table.{Table}
 use Rattle.outside_core.specs.Stores.{Stores, store_of}
-use Rattle.serve_command.specs.Serving.{Ends, IsBadStore, NotHeld}
+use Rattle.serve_command.specs.Serving.{Ends, IsBadStore}
 use Rattle.serve_command.specs.Shelves.{Shelves}
 use Rattle.bad_stores.specs.Laws.{CountsNone, IsAdministered, IsRefused, IsServed, AdminRefusesBadStores, ServeRefusesBadStores}
 
@@ -59,10 +58,10 @@ module _ (name : List ℕ) (old new : Shelves) (told : Stores) (is : old.stores 
           answered = answered;
           wrote = wrote;
         }
-    admin_by lines None e (inr (is_one, table, row, is_bad, apart, wrote)) = absurd (not_named table row e is_bad)
+    admin_by lines None e (inr (is_one, bad)) = absurd (not_named bad.0 bad.1 e bad.2)
     admin_by lines (Some bad) e (inl (base, came, over, administers, answered, wrote)) =
         absurd (none_opened (store_of name told) base.opening bad e (opened base.opening over.opening) over.good)
-    admin_by lines (Some bad) e (inr (is_one, table, row, is_bad, apart, wrote)) = refused written now status bad table row e is_bad (is_one, apart, wrote)
+    admin_by lines (Some bad) e (inr (is_one, named)) = refused written now status bad named.0 named.1 e named.2 (is_one, named.3, named.4)
 
     serve_by : (number : ℕ) (found : Option (Table × ℕ)) → bad_row (store_of name told) ≡ found → Ends limits name number old new written now status
         → MatchOption found (IsServed limits name number old new told written now status) (IsRefused old new written now status)

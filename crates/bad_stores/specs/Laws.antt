@@ -1,6 +1,5 @@
 -- When a store is refused for a row that no book opens with, where an outside tells its stores.
-use Rattle.std.specs.Prelude.{◌≡◌, ℕ, true, false, List, [], ◌∷◌, ◌++◌, Option, Some, MatchOption, ⊥}
-use Rattle.std.specs.List.{list_any}
+use Rattle.std.specs.Prelude.{◌≡◌, ℕ, false, List, [], ◌∷◌, ◌++◌, Option, Some, MatchOption}
 use Rattle.std.specs.Io.KnownBytes.{Appends}
 use Rattle.admin_command.specs.Administering.{Administers, Came}
 use Rattle.admin_command.specs.Ends.{AdminEnds, OverStore}

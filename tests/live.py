@@ -754,6 +754,202 @@ def integrations_reach_their_backend(server):
         backend.end()
 
 
+class Authorizer(Backend):
+    """An authorizer, whose policies and faults come by the token."""
+
+    def reply(self, taken, path, body):
+        token = json.loads(body)["authorizationToken"].encode()
+        given = GIVEN.get(token, POLICY % b"*")
+        taken.sendall(b"HTTP/1.1 %s\r\ncontent-length: %d\r\n\r\n%s" % (STATUSES.get(token, b"200 OK"), len(given), given))
+
+
+POLICY = b'{"principalId":"u7","policyDocument":{"Statement":[{"Effect":"Allow","Action":"execute-api:Invoke","Resource":"%s"}]}}'
+NO_POSTS = (
+    b'{"principalId":"u8","policyDocument":{"Statement":[{"Effect":"Allow","Action":"execute-api:*","Resource":"*"},'
+    b'{"Effect":"Deny","Action":"*","Resource":"*/POST/*"}]}}'
+)
+GIVEN = {b"reads": NO_POSTS, b"garbage": b"{}", b"broken": b"oh"}
+STATUSES = {b"broken": b"500 Internal Server Error"}
+
+
+def guarded(uri, ttl):
+    """An API whose one resource is behind an authorizer, and tells who calls."""
+    mock = {
+        "type": "MOCK",
+        "templates": {"application/json": '{"statusCode":200}'},
+        "responses": [{"status": 200, "templates": {"application/json": "$context.authorizer.principalId"}}],
+    }
+    method = {"authorizer": "tok", "integration": mock}
+    authorizer = {"header": "authorization", "pattern": "[a-z0-9]+", "uri": uri, "ttl": ttl}
+    return json.dumps({"version": 1, "authorizers": {"tok": authorizer}, "resources": {"/x": {"GET": method, "POST": method}}}).encode()
+
+
+def guarded_call(verb, token, stage=b"v1"):
+    return b"%s /guarded/%s/x HTTP/1.1\r\nhost: localhost\r\nauthorization: %s\r\n\r\n" % (verb, stage, token)
+
+
+DENIED = own_answer(b"403 Forbidden", b"ACCESS_DENIED", b"User is not authorized to access this resource")
+UNAUTHORIZED = own_answer(b"401 Unauthorized", b"UNAUTHORIZED", b"Unauthorized")
+UNANSWERED = own_answer(b"500 Internal Server Error", b"AUTHORIZER_FAILURE", b"Authorizer failed")
+GARBAGE = own_answer(b"500 Internal Server Error", b"AUTHORIZER_CONFIGURATION_ERROR", b"Invalid authorizer reply")
+
+
+def an_authorizer_is_asked_once_for_a_token(server):
+    """One exchange for ten calls with a token, one more behind a flush; a policy that denies POST is remembered too; one that answers garbage
+    or fails is asked each time; a token that is none is told without an exchange; and each of 1,025 tokens, and then the first once more."""
+    authorizer = Authorizer()
+    steps = [
+        (request(b"PUT", b"/_admin/apis/guarded", guarded("http://127.0.0.1:%d/auth" % authorizer.port, 3600)), DONE),
+        (request(b"POST", b"/_admin/apis/guarded/deployments"), json_answer(b"200 OK", b'{"reply":"deployed 1"}')),
+        (request(b"PUT", b"/_admin/apis/guarded/stages/v1", b"1"), DONE),
+        (request(b"PUT", b"/_admin/apis/guarded/stages/v2", b"1"), DONE),
+    ]
+
+    def asked(what, count):
+        expect(f"exchanges {what}", authorizer.sent.qsize(), count)
+        return [authorizer.sent.get() for _ in range(count)]
+
+    try:
+        with Client(server.port) as client:
+
+            def calls(verb, token, answer, stage=b"v1"):
+                client.calls(f"{verb} with {token}", guarded_call(verb, token, stage), answer)
+
+            for step, answer in steps:
+                client.calls(f"to {step[:60]}", step, answer)
+            for _ in range(10):
+                calls(b"GET", b"ann", proxied(b"200 OK", b"u7"))
+            body = b'{"type":"TOKEN","authorizationToken":"ann","methodArn":"arn:aws:execute-api:local:000000000000:guarded/v1/GET/x"}'
+            head = b"POST /auth HTTP/1.1\r\nhost: 127.0.0.1:%d\r\ncontent-type: application/json\r\nconnection: close\r\ncontent-length: %d\r\n\r\n"
+            expect("what the authorizer is asked", asked("for ten calls", 1), [head % (authorizer.port, len(body)) + body])
+            calls(b"GET", b"ann", proxied(b"200 OK", b"u7"), b"v2")
+            asked("at another stage", 1)
+            client.calls("to a flush", request(b"POST", b"/_admin/apis/guarded/stages/v1/flush"), DONE)
+            calls(b"GET", b"ann", proxied(b"200 OK", b"u7"))
+            calls(b"GET", b"ann", proxied(b"200 OK", b"u7"), b"v2")
+            asked("behind a flush", 1)
+            none = request(b"POST", b"/_admin/apis/guarded/stages/v3/flush")
+            client.calls("to a flush of no stage", none, json_answer(b"409 Conflict", b'{"reply":"refused NoStage"}'))
+            for verb, answer in ((b"GET", proxied(b"200 OK", b"u8")), (b"POST", DENIED), (b"GET", proxied(b"200 OK", b"u8"))):
+                calls(verb, b"reads", answer)
+            asked("of a policy that denies some", 1)
+            for token, answer in ((b"garbage", GARBAGE), (b"broken", UNANSWERED)) * 2:
+                calls(b"GET", token, answer)
+            asked("that come to no policy", 4)
+            for token in (b"", b" ", b"Bad!"):
+                calls(b"GET", token, UNAUTHORIZED)
+            client.calls("without a token", request(b"GET", b"/guarded/v1/x"), UNAUTHORIZED)
+            asked("without a token", 0)
+        tokens = [b"t%d" % number for number in range(1025)]
+        for first in range(0, 1025, 500):
+            # a connection has 1,000 answers at most
+            with Client(server.port) as client:
+                for token in tokens[first : first + 500]:
+                    client.calls(f"GET with {token}", guarded_call(b"GET", token), proxied(b"200 OK", b"u7"))
+        asked("for 1,025 tokens", 1025)
+        with Client(server.port) as client:
+            client.calls("with the second token", guarded_call(b"GET", b"t1"), proxied(b"200 OK", b"u7"))
+            asked("for one of the last 1,024", 0)
+            client.calls("with the first token", guarded_call(b"GET", b"t0"), proxied(b"200 OK", b"u7"))
+            asked("for the first of 1,025", 1)
+    finally:
+        authorizer.end()
+
+
+def played_guarded(uri=b"http://127.0.0.1:9001/auth", ttl=300):
+    lines = [b"api 0 a " + field(guarded(uri.decode(), ttl)), b"deploy 0 a", b"stage 0 a s 1"]
+    return lines, [b"done", b"deployed 1", b"done"]
+
+
+def guarded_at(moment, verb, token, *outcomes):
+    call = b"%s /a/s/x HTTP/1.1\r\nhost: localhost\r\nauthorization: %s\r\n\r\n" % (verb, token)
+    return b"call %d 0 " % moment + b" ".join([field(call), *outcomes])
+
+
+def asked_for(verb, token):
+    body = b'{"type":"TOKEN","authorizationToken":"%s","methodArn":"arn:aws:execute-api:local:000000000000:a/s/%s/x"}' % (token, verb)
+    head = b"POST /auth HTTP/1.1\r\nhost: 127.0.0.1:9001\r\ncontent-type: application/json\r\nconnection: close\r\ncontent-length: %d\r\n\r\n"
+    return b"sent " + field(head % len(body) + body)
+
+
+def gives(body, status=b"200 OK"):
+    return field(b"HTTP/1.1 %s\r\ncontent-length: %d\r\n\r\n%s" % (status, len(body), body))
+
+
+def a_policy_is_remembered_for_its_seconds(server):
+    """At 0, at 299,999 and at 300,000 with 300 seconds; behind a flush; an authorizer that fails or gives no policy; and one whose policies
+    may not be remembered."""
+    ok, ended = b"answer " + field(proxied(b"200 OK", b"u8")), b"ended Closed"
+    lines, wanted = played_guarded()
+    lines += [
+        guarded_at(0, b"GET", b"t", gives(NO_POSTS)),
+        guarded_at(299_999, b"POST", b"t"),
+        guarded_at(300_000, b"GET", b"t", gives(NO_POSTS)),
+        b"flush 300001 a s",
+        guarded_at(300_002, b"GET", b"t", gives(NO_POSTS)),
+        b"flush 300003 a q",
+        guarded_at(300_004, b"GET", b"t"),
+        guarded_at(300_005, b"GET", b"u", gives(b"oh", b"500 Internal Server Error")),
+        guarded_at(300_006, b"GET", b"u", gives(b"{}")),
+        guarded_at(300_007, b"GET", b"u", b"!failed"),
+        guarded_at(300_008, b"GET", b"u", b"!lapsed"),
+        guarded_at(300_009, b"GET", b"U"),
+    ]
+    get, unlearned = asked_for(b"GET", b"t"), asked_for(b"GET", b"u")
+    wanted += [get, ok, ended, b"answer " + field(DENIED), ended, get, ok, ended, b"done", get, ok, ended, b"refused NoStage", ok, ended]
+    for answer in (UNANSWERED, GARBAGE, UNANSWERED, UNANSWERED):
+        wanted += [unlearned, b"answer " + field(answer), ended]
+    wanted += [b"answer " + field(UNAUTHORIZED), ended]
+    plays(server, "an authorizer of 300 seconds", lines, wanted)
+    lines, wanted = played_guarded(ttl=0)
+    for moment in range(3):
+        lines += [guarded_at(moment, b"GET", b"t", gives(NO_POSTS))]
+        wanted += [get, ok, ended]
+    plays(server, "an authorizer whose policies are not remembered", lines, wanted)
+
+
+ORDERS = (
+    b'{"version":1,\n"models":{"Order":{"type":"object","required":["sku","qty","price"],"properties":{"sku":{"type":"string","pattern":"^[A-Z]{2}-[0-9]+$"},'
+    b'"qty":{"type":"integer","minimum":1},"price":{"type":"number","minimum":0},"note":{"type":"string","maxLength":2000}}}},\n'
+    b'"validators":{"all":{"body":true,"parameters":true}},\n'
+    b'"authorizers":{"tok":{"header":"authorization","pattern":"Bearer [a-z0-9]+","uri":"http://127.0.0.1:9001/auth","ttl":300}},\n'
+    b'"resources":{"/orders":{"POST":{"apiKeyRequired":true,"authorizer":"tok","validator":"all","parameters":{"method.request.querystring.shop":true},'
+    b'"models":{"application/json":"Order"},\n"integration":{"type":"HTTP","method":"PUT","uri":"http://127.0.0.1:9002/${stageVariables.env}/orders",'
+    b'"parameters":{"integration.request.header.x-shop":"method.request.querystring.shop"},\n"templates":{"application/json":'
+    b'"#set($in = $input.path(\'$\'))\\n{\\"item\\":\\"$in.sku\\",\\"qty\\":$in.qty,\\"price\\":$input.json(\'$.price\'),\\"by\\":\\"$context.authorizer.principalId\\"}"},\n'
+    b'"responses":[{"pattern":"2\\\\d\\\\d","status":201,"parameters":{"method.response.header.location":"integration.response.header.location"},'
+    b'"templates":{"application/json":"{\\"id\\":$input.json(\'$.id\')}"}},{"status":502}]}}}}}'
+)
+
+
+def an_order_goes_through_all_its_checks(server):
+    """The API of orders: a model, a validator, an authorizer, a key with its quota, a mapped request and a mapped reply, to the byte; two
+    exchanges, and one unit of the quota."""
+    body = b'{"sku":"AB-12","qty":3,"price":12.90,"note":"' + b"n" * 1900 + b'"}'
+    order = (
+        b"POST /shop/prod/orders?shop=7 HTTP/1.1\r\nhost: localhost:8080\r\nuser-agent: curl/8.5.0\r\naccept: */*\r\ncontent-type: application/json\r\n"
+        b"authorization: Bearer abc123\r\nx-api-key: 0123456789abcdef0123\r\ncontent-length: 1947\r\n\r\n" + body
+    )
+    lines = [b"api 0 shop " + field(ORDERS), b"deploy 0 shop", b"stage 0 shop prod 1 env=live", b"key 0 k1 0123456789abcdef0123 on"]
+    lines += [b"plan 0 gold 10:20 1000:0:MONTH shop/prod", b"join 0 gold k1"]
+    allow = b'{"principalId":"u7","policyDocument":{"Version":"2012-10-17","Statement":[{"Effect":"Allow","Action":"execute-api:Invoke","Resource":"*"}]}}'
+    taken = b'HTTP/1.1 201 Created\r\nlocation: /orders/55\r\ncontent-type: application/json\r\ncontent-length: 25\r\n\r\n{"id":55,"state":"taken"}'
+    lines += [b" ".join([b"call 0 0", field(order), gives(allow), field(taken)]), b"usage 0 gold k1"]
+    question = b'{"type":"TOKEN","authorizationToken":"Bearer abc123","methodArn":"arn:aws:execute-api:local:000000000000:shop/prod/POST/orders"}'
+    asked = b"POST /auth HTTP/1.1\r\nhost: 127.0.0.1:9001\r\ncontent-type: application/json\r\nconnection: close\r\ncontent-length: 128\r\n\r\n" + question
+    mapped = b'{"item":"AB-12","qty":3,"price":12.90,"by":"u7"}'
+    put = b"PUT /live/orders HTTP/1.1\r\nhost: 127.0.0.1:9002\r\nx-shop: 7\r\ncontent-type: application/json\r\nconnection: close\r\ncontent-length: 48\r\n\r\n" + mapped
+    answer = b'HTTP/1.1 201 Created\r\ncontent-type: application/json\r\nlocation: /orders/55\r\ncontent-length: 9\r\n\r\n{"id":55}'
+    wanted = [b"done", b"deployed 1", b"done", b"done", b"done", b"done", b"sent " + field(asked), b"sent " + field(put), b"answer " + field(answer), b"ended Closed"]
+    plays(server, "an order", lines, [*wanted, b"usage period=MONTH:0 allowance=1000 used=1 remaining=999"])
+    # each front of the order, and the broken ones among what is to come
+    lines, wanted = lines[:6], wanted[:6]
+    for count in range(1, len(order)):
+        lines += [b"call 0 0 " + field(order[:count])]
+        wanted += [b"ended Cut(%d)" % count]
+    plays(server, "the fronts of an order", [*lines, b"usage 0 gold k1"], [*wanted, b"usage period=MONTH:0 allowance=1000 used=0 remaining=1000"])
+
+
 def the_pets_are_called(server):
     """The example with a backend of its own."""
     script = f"{TOP}/examples/petstore.sh"
@@ -772,6 +968,14 @@ def the_pets_are_called(server):
         b"session entries=20 calls=6 admitted=0 throttled=0 quota=0 notkept=0",
     ]
     expect("petstore.sh", (ended.returncode, sorted(ended.stdout.splitlines())), (0, sorted(lines)))
+
+
+def the_guarded_api_is_called(server):
+    """The example with an authorizer of its own."""
+    script = f"{TOP}/examples/guarded.sh"
+    ended = subprocess.run([script, server.program, free_port(), free_port()], stdin=subprocess.DEVNULL, capture_output=True, timeout=WAIT)
+    said = b"401 UNAUTHORIZED\n200 hello ann\n200 hello ann\n403 ACCESS_DENIED\n200 hello root\n500 AUTHORIZER_FAILURE\nasked 3 times\n"
+    expect("guarded.sh", (ended.returncode, ended.stdout), (0, said))
 
 
 def a_stage_shows_its_deployment_and_its_variables(server):
@@ -1019,7 +1223,11 @@ TESTS = [
     requests_to_a_document_are_checked,
     calls_count_against_their_quota,
     integrations_reach_their_backend,
+    an_authorizer_is_asked_once_for_a_token,
+    a_policy_is_remembered_for_its_seconds,
+    an_order_goes_through_all_its_checks,
     the_pets_are_called,
+    the_guarded_api_is_called,
     the_examples_do_what_stands_beside_them,
     broken_clients_harm_no_other,
     words_that_are_no_command_end_with_2,

@@ -15,7 +15,7 @@
 //! | `deploy 0 nope` | `refused NoApi`, and the next line is carried out |
 //! | `plan 0 p 1:2 - hello/v1`, `key 0 k v on`, `join 0 p k` | `done` |
 //! | `usage 0 p k` of a plan without a quota | `refused NoQuota` |
-//! | `flush 0 hello v1` | `refused line 1 NotBuilt at ~`, status 1, and no further line is carried out |
+//! | `flush 0 hello v1` | `done` where the stage stands, else `refused NoStage`: no store keeps policies, so there is none here to forget |
 //! | a command whose change the store did not keep | `store`, and the next line is carried out |
 //! | `post 0 0 hello v1 Ann`, `bogus 1` | `refused line 1 BadRecord at ~`, status 1, and no further line is carried out |
 //! | a command where the session is full | `full` with the numbers of the session, status 4 |

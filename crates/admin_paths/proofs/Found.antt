@@ -4,7 +4,7 @@ use Rattle.std.proofs.lemmas.Slice.Eq.{bytes_eq-Decides}
 use Rattle.admin_paths.specs.Paths.{is_apis, is_keys, is_parameter, is_plan_key, is_plans, is_stage, path_in}
 use Rattle.admin_paths.specs.Found.{HasParameters, IsParameter, PathsAreFound, segments_of}
 use Rattle.admin_paths.specs.declared.paths.AdminPath.{AdminPath}
-use Rattle.admin_paths.specs.declared.paths.AdminPath.TheVariants.{Document, Template, Deployments, Stage, Canary, Promote, Key, Plan, PlanKey, Grant, Usage, Shutdown}
+use Rattle.admin_paths.specs.declared.paths.AdminPath.TheVariants.{Document, Template, Deployments, Stage, Canary, Promote, Flush, Key, Plan, PlanKey, Grant, Usage, Shutdown}
 
 abbrev Fits : List (List ℕ) → AdminPath → Type 0
 Fits segments path = (segments ≡ segments_of path) × HasParameters path
@@ -72,9 +72,10 @@ fits (s ∷ t ∷ u ∷ a ∷ []) =
 fits (s ∷ t ∷ u ∷ a ∷ b ∷ []) =
     let all = s ∷ t ∷ u ∷ a ∷ b ∷ [] in
     or_fits all (is_stage s t u a && bytes_eq b (codes "canary")) (Canary t a) _ (in_five s t u a b (codes "apis") (codes "stages") (codes "canary"))
+    (or_fits all (is_stage s t u a && bytes_eq b (codes "flush")) (Flush t a) _ (in_five s t u a b (codes "apis") (codes "stages") (codes "flush"))
     (or_fits all (is_stage s t u a && bytes_eq b (codes "promote")) (Promote t a) _ (in_five s t u a b (codes "apis") (codes "stages") (codes "promote"))
     (or_fits all (is_plan_key s t u a && bytes_eq b (codes "grant")) (Grant t a) _ (in_five s t u a b (codes "plans") (codes "keys") (codes "grant"))
-    (or_fits all (is_plan_key s t u a && bytes_eq b (codes "usage")) (Usage t a) None (in_five s t u a b (codes "plans") (codes "keys") (codes "usage")) tt)))
+    (or_fits all (is_plan_key s t u a && bytes_eq b (codes "usage")) (Usage t a) None (in_five s t u a b (codes "plans") (codes "keys") (codes "usage")) tt))))
 fits (s ∷ t ∷ u ∷ a ∷ b ∷ c ∷ rest) = tt
 
 -- and what fits is found
@@ -86,6 +87,7 @@ finds (Deployments api) h = rw h refl
 finds (Stage api stage) (h, k) = rw (h, k) refl
 finds (Canary api stage) (h, k) = rw (h, k) refl
 finds (Promote api stage) (h, k) = rw (h, k) refl
+finds (Flush api stage) (h, k) = rw (h, k) refl
 finds (Key key) h = rw h refl
 finds (Plan plan) h = rw h refl
 finds (PlanKey plan key) (h, k) = rw (h, k) refl

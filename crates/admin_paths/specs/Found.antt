@@ -2,7 +2,7 @@
 use Rattle.std.specs.Prelude.{◌≡◌, ◌↔◌, ℕ, true, List, [], ◌∷◌, codes, Some, ⊤}
 use Rattle.admin_paths.specs.Paths.{is_parameter, path_in}
 use Rattle.admin_paths.specs.declared.paths.AdminPath.{AdminPath}
-use Rattle.admin_paths.specs.declared.paths.AdminPath.TheVariants.{Document, Template, Deployments, Stage, Canary, Promote, Key, Plan, PlanKey, Grant, Usage, Shutdown}
+use Rattle.admin_paths.specs.declared.paths.AdminPath.TheVariants.{Document, Template, Deployments, Stage, Canary, Promote, Flush, Key, Plan, PlanKey, Grant, Usage, Shutdown}
 
 -- the literals of a path in their places, and its parameters
 abbrev pub segments_of : AdminPath → List (List ℕ)
@@ -12,6 +12,7 @@ segments_of (Deployments api) = codes "apis" ∷ api ∷ codes "deployments" ∷
 segments_of (Stage api stage) = codes "apis" ∷ api ∷ codes "stages" ∷ stage ∷ []
 segments_of (Canary api stage) = codes "apis" ∷ api ∷ codes "stages" ∷ stage ∷ codes "canary" ∷ []
 segments_of (Promote api stage) = codes "apis" ∷ api ∷ codes "stages" ∷ stage ∷ codes "promote" ∷ []
+segments_of (Flush api stage) = codes "apis" ∷ api ∷ codes "stages" ∷ stage ∷ codes "flush" ∷ []
 segments_of (Key key) = codes "keys" ∷ key ∷ []
 segments_of (Plan plan) = codes "plans" ∷ plan ∷ []
 segments_of (PlanKey plan key) = codes "plans" ∷ plan ∷ codes "keys" ∷ key ∷ []
@@ -29,6 +30,7 @@ HasParameters (Deployments api) = IsParameter api
 HasParameters (Stage api stage) = IsParameter api × IsParameter stage
 HasParameters (Canary api stage) = IsParameter api × IsParameter stage
 HasParameters (Promote api stage) = IsParameter api × IsParameter stage
+HasParameters (Flush api stage) = IsParameter api × IsParameter stage
 HasParameters (Key key) = IsParameter key
 HasParameters (Plan plan) = IsParameter plan
 HasParameters (PlanKey plan key) = IsParameter plan × IsParameter key

@@ -2,7 +2,7 @@
 use Rattle.std.specs.Prelude.{ℕ, Bool, true, false, ◌&&◌, List, [], ◌∷◌, codes, Option, Some, None, if◌then◌else◌}
 use Rattle.std.specs.Str.{bytes_eq}
 use Rattle.admin_paths.specs.declared.paths.AdminPath.{AdminPath}
-use Rattle.admin_paths.specs.declared.paths.AdminPath.TheVariants.{Document, Template, Deployments, Stage, Canary, Promote, Key, Plan, PlanKey, Grant, Usage, Shutdown}
+use Rattle.admin_paths.specs.declared.paths.AdminPath.TheVariants.{Document, Template, Deployments, Stage, Canary, Promote, Flush, Key, Plan, PlanKey, Grant, Usage, Shutdown}
 use Rattle.admin_paths.specs.declared.table.Form.{Form}
 use Rattle.admin_paths.specs.declared.table.Form.TheVariants as form
 
@@ -46,6 +46,7 @@ path_in (first ∷ name ∷ kind ∷ second ∷ []) =
     else None
 path_in (first ∷ name ∷ kind ∷ second ∷ last ∷ []) =
     if is_stage first name kind second && bytes_eq last (codes "canary") then Some (Canary name second)
+    else if is_stage first name kind second && bytes_eq last (codes "flush") then Some (Flush name second)
     else if is_stage first name kind second && bytes_eq last (codes "promote") then Some (Promote name second)
     else if is_plan_key first name kind second && bytes_eq last (codes "grant") then Some (Grant name second)
     else if is_plan_key first name kind second && bytes_eq last (codes "usage") then Some (Usage name second)
@@ -69,6 +70,7 @@ abbrev pub with_two : Form → List ℕ → List ℕ → Option AdminPath
 with_two form.Stage first second = Some (Stage first second)
 with_two form.Canary first second = Some (Canary first second)
 with_two form.Promote first second = Some (Promote first second)
+with_two form.Flush first second = Some (Flush first second)
 with_two form.PlanKey first second = Some (PlanKey first second)
 with_two form.Grant first second = Some (Grant first second)
 with_two form.Usage first second = Some (Usage first second)

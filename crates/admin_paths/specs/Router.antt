@@ -9,7 +9,7 @@ use Rattle.matchit.specs.declared.error.InsertError.{InsertError}
 use Rattle.admin_paths.specs.declared.paths.AdminPath.{AdminPath}
 use Rattle.admin_paths.specs.declared.paths.AdminPath.TheVariants as path
 use Rattle.admin_paths.specs.declared.table.Form.{Form}
-use Rattle.admin_paths.specs.declared.table.Form.TheVariants.{Document, Template, Deployments, Stage, Canary, Promote, Key, Plan, PlanKey, Grant, Usage, Shutdown}
+use Rattle.admin_paths.specs.declared.table.Form.TheVariants.{Document, Template, Deployments, Stage, Canary, Promote, Flush, Key, Plan, PlanKey, Grant, Usage, Shutdown}
 
 abbrev pub Routes : Type 0
 Routes = RowsOf (RouteOf Form)
@@ -33,6 +33,7 @@ table =
     ∷ (codes "apis/{api}/stages/{stage}", Stage)
     ∷ (codes "apis/{api}/stages/{stage}/canary", Canary)
     ∷ (codes "apis/{api}/stages/{stage}/promote", Promote)
+    ∷ (codes "apis/{api}/stages/{stage}/flush", Flush)
     ∷ (codes "keys/{key}", Key)
     ∷ (codes "plans/{plan}", Plan)
     ∷ (codes "plans/{plan}/keys/{key}", PlanKey)
@@ -54,6 +55,7 @@ form_of (path.Deployments api) = Deployments
 form_of (path.Stage api stage) = Stage
 form_of (path.Canary api stage) = Canary
 form_of (path.Promote api stage) = Promote
+form_of (path.Flush api stage) = Flush
 form_of (path.Key key) = Key
 form_of (path.Plan plan) = Plan
 form_of (path.PlanKey plan key) = PlanKey

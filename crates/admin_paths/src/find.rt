@@ -98,6 +98,10 @@ fn with_two(
             api: first,
             stage: second,
         }),
+        Form::Flush => Some(AdminPath::Flush {
+            api: first,
+            stage: second,
+        }),
         Form::PlanKey => Some(AdminPath::PlanKey {
             plan: first,
             key: second,

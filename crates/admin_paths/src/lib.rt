@@ -1,6 +1,6 @@
 //! The paths of the administration's table, found by a router.
 //!
-//! [`AdminPaths`] keeps a router of the twelve paths of the table, and finds which of them a path behind `/_admin/` is. Its answer
+//! [`AdminPaths`] keeps a router of the thirteen paths of the table, and finds which of them a path behind `/_admin/` is. Its answer
 //! has the parameters of the path.
 //!
 //! ```text
@@ -17,6 +17,7 @@
 //! | `apis/{api}/stages/{stage}` | `Stage { api, stage }` |
 //! | `apis/{api}/stages/{stage}/canary` | `Canary { api, stage }` |
 //! | `apis/{api}/stages/{stage}/promote` | `Promote { api, stage }` |
+//! | `apis/{api}/stages/{stage}/flush` | `Flush { api, stage }` |
 //! | `keys/{key}` | `Key { key }` |
 //! | `plans/{plan}` | `Plan { plan }` |
 //! | `plans/{plan}/keys/{key}` | `PlanKey { plan, key }` |

@@ -16,6 +16,8 @@ pub enum AdminPath {
     Canary { api: Text, stage: Text },
     /// The canary of a stage, as it becomes the stage's own.
     Promote { api: Text, stage: Text },
+    /// The policies that are remembered at a stage, as they are forgotten.
+    Flush { api: Text, stage: Text },
     /// An API key.
     Key { key: Text },
     /// A usage plan.

@@ -22,6 +22,8 @@ pub enum Form {
     Canary,
     /// `apis/{api}/stages/{stage}/promote`
     Promote,
+    /// `apis/{api}/stages/{stage}/flush`
+    Flush,
     /// `keys/{key}`
     Key,
     /// `plans/{plan}`
@@ -36,13 +38,14 @@ pub enum Form {
     Shutdown,
 }
 
-const TABLE: [(&str, Form); 12] = [
+const TABLE: [(&str, Form); 13] = [
     ("apis/{api}", Form::Document),
     ("apis/{api}/text", Form::Template),
     ("apis/{api}/deployments", Form::Deployments),
     ("apis/{api}/stages/{stage}", Form::Stage),
     ("apis/{api}/stages/{stage}/canary", Form::Canary),
     ("apis/{api}/stages/{stage}/promote", Form::Promote),
+    ("apis/{api}/stages/{stage}/flush", Form::Flush),
     ("keys/{key}", Form::Key),
     ("plans/{plan}", Form::Plan),
     ("plans/{plan}/keys/{key}", Form::PlanKey),

@@ -13,7 +13,7 @@ use Rattle.admin_paths.specs.Paths.{path_in}
 use Rattle.admin_paths.specs.declared.paths.AdminPath.{AdminPath}
 use Rattle.admin_routes.specs.Routes.{behind_slash, path_of, route_at_path, route_in, segments_behind}
 use Rattle.admin_routes.specs.declared.routes.Route.{Route}
-use Rattle.admin_routes.specs.declared.routes.Route.TheVariants.{PutDocument, PutTemplate, Deploy, PutStage, PutCanary, Promote, PutKey, PutPlan, JoinKey, Grant, Usage, Shutdown}
+use Rattle.admin_routes.specs.declared.routes.Route.TheVariants.{PutDocument, PutTemplate, Deploy, PutStage, PutCanary, Promote, Flush, PutKey, PutPlan, JoinKey, Grant, Usage, Shutdown}
 use Rattle.admin_routes.proofs.Finding.{ascii, routes_are_found}
 
 abbrev is_slash : ℕ → Bool
@@ -34,6 +34,7 @@ first_literal (Deploy api) = refl
 first_literal (PutStage api stage) = refl
 first_literal (PutCanary api stage) = refl
 first_literal (Promote api stage) = refl
+first_literal (Flush api stage) = refl
 first_literal (PutKey key) = refl
 first_literal (PutPlan plan) = refl
 first_literal (JoinKey plan key) = refl

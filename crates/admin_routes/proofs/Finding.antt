@@ -16,7 +16,7 @@ use Rattle.admin_paths.specs.declared.paths.AdminPath.TheVariants as path
 use Rattle.admin_paths.proofs.Found.{paths_are_found}
 use Rattle.admin_routes.specs.Routes.{HasParameters, IsParameter, RoutesAreFound, parameter, path_of, route_at_path, route_in, route_of, verb_of}
 use Rattle.admin_routes.specs.declared.routes.Route.{Route}
-use Rattle.admin_routes.specs.declared.routes.Route.TheVariants.{PutDocument, PutTemplate, Deploy, PutStage, PutCanary, Promote, PutKey, PutPlan, JoinKey, Grant, Usage, Shutdown}
+use Rattle.admin_routes.specs.declared.routes.Route.TheVariants.{PutDocument, PutTemplate, Deploy, PutStage, PutCanary, Promote, Flush, PutKey, PutPlan, JoinKey, Grant, Usage, Shutdown}
 
 abbrev Fits : List ℕ → List (List ℕ) → Route → Type 0
 Fits verb segments route = (verb ≡ verb_of route) × (segments ≡ path_of route) × HasParameters route
@@ -70,6 +70,7 @@ path_at (Deploy api) = path.Deployments api
 path_at (PutStage api stage) = path.Stage api stage
 path_at (PutCanary api stage) = path.Canary api stage
 path_at (Promote api stage) = path.Promote api stage
+path_at (Flush api stage) = path.Flush api stage
 path_at (PutKey key) = path.Key key
 path_at (PutPlan plan) = path.Plan plan
 path_at (JoinKey plan key) = path.PlanKey plan key
@@ -84,6 +85,7 @@ same_path (path.Deployments api) = refl
 same_path (path.Stage api stage) = refl
 same_path (path.Canary api stage) = refl
 same_path (path.Promote api stage) = refl
+same_path (path.Flush api stage) = refl
 same_path (path.Key key) = refl
 same_path (path.Plan plan) = refl
 same_path (path.PlanKey plan key) = refl
@@ -98,6 +100,7 @@ parameters (path.Deployments api) t h = is_one api h t.1.0
 parameters (path.Stage api stage) t h = (is_one api h.0 t.1.0, is_one stage h.1 t.1.1.1.0)
 parameters (path.Canary api stage) t h = (is_one api h.0 t.1.0, is_one stage h.1 t.1.1.1.0)
 parameters (path.Promote api stage) t h = (is_one api h.0 t.1.0, is_one stage h.1 t.1.1.1.0)
+parameters (path.Flush api stage) t h = (is_one api h.0 t.1.0, is_one stage h.1 t.1.1.1.0)
 parameters (path.Key key) t h = is_one key h t.1.0
 parameters (path.Plan plan) t h = is_one plan h t.1.0
 parameters (path.PlanKey plan key) t h = (is_one plan h.0 t.1.0, is_one key h.1 t.1.1.1.0)
@@ -150,6 +153,7 @@ texts (Deploy api) h = (apis, (is_text api h, (word (codes "deployments") refl, 
 texts (PutStage api stage) h = (apis, (is_text api h.0, (stages, (is_text stage h.1, tt))))
 texts (PutCanary api stage) h = (apis, (is_text api h.0, (stages, (is_text stage h.1, (word (codes "canary") refl, tt)))))
 texts (Promote api stage) h = (apis, (is_text api h.0, (stages, (is_text stage h.1, (word (codes "promote") refl, tt)))))
+texts (Flush api stage) h = (apis, (is_text api h.0, (stages, (is_text stage h.1, (word (codes "flush") refl, tt)))))
 texts (PutKey key) h = (keys, (is_text key h, tt))
 texts (PutPlan plan) h = (plans, (is_text plan h, tt))
 texts (JoinKey plan key) h = (plans, (is_text plan h.0, (keys, (is_text key h.1, tt))))
@@ -166,6 +170,7 @@ at_path (Deploy api) h = (refl, has_byte api h)
 at_path (PutStage api stage) h = (refl, (has_byte api h.0, has_byte stage h.1))
 at_path (PutCanary api stage) h = (refl, (has_byte api h.0, has_byte stage h.1))
 at_path (Promote api stage) h = (refl, (has_byte api h.0, has_byte stage h.1))
+at_path (Flush api stage) h = (refl, (has_byte api h.0, has_byte stage h.1))
 at_path (PutKey key) h = (refl, has_byte key h)
 at_path (PutPlan plan) h = (refl, has_byte plan h)
 at_path (JoinKey plan key) h = (refl, (has_byte plan h.0, has_byte key h.1))
@@ -180,6 +185,7 @@ own_verb (Deploy api) = refl
 own_verb (PutStage api stage) = refl
 own_verb (PutCanary api stage) = refl
 own_verb (Promote api stage) = refl
+own_verb (Flush api stage) = refl
 own_verb (PutKey key) = refl
 own_verb (PutPlan plan) = refl
 own_verb (JoinKey plan key) = refl

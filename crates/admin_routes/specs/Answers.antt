@@ -3,7 +3,7 @@ use Rattle.std.specs.Prelude.{ℕ, List, [], ◌∷◌, ◌++◌, codes, None}
 use Rattle.std.specs.Fmt.{decimal}
 use Rattle.book_rules.specs.Printed.{refusal_name, usage_text}
 use Rattle.book_rules.specs.declared.replies.Reply.{Reply}
-use Rattle.book_rules.specs.declared.replies.Reply.TheVariants.{Entered, NoStage, Admitted, InvalidKey, Throttled, QuotaExceeded, Store, Left, Done, Deployed, Usage, Refused}
+use Rattle.book_rules.specs.declared.replies.Reply.TheVariants.{Entered, NoStage, Remembered, NotRemembered, Learned, Admitted, InvalidKey, Throttled, QuotaExceeded, Store, Left, Done, Deployed, Usage, Refused}
 use Rattle.call_facts.specs.declared.answer.Answer.{Answer}
 use Rattle.gateway_vars.specs.Escapes.{json_string}
 use Rattle.method_flow.specs.declared.answers.Made.{Made}
@@ -32,6 +32,9 @@ reply_text (Usage usage) = usage_text usage
 reply_text Store = codes "store"
 reply_text NoStage = []
 reply_text (Entered view) = []
+reply_text (Remembered policy) = []
+reply_text NotRemembered = []
+reply_text Learned = []
 reply_text (Admitted key plan) = []
 reply_text InvalidKey = []
 reply_text (Throttled level) = []
@@ -46,6 +49,9 @@ reply_status (Refused refusal) = 409
 reply_status Store = 500
 reply_status NoStage = 500
 reply_status (Entered view) = 500
+reply_status (Remembered policy) = 500
+reply_status NotRemembered = 500
+reply_status Learned = 500
 reply_status (Admitted key plan) = 500
 reply_status InvalidKey = 500
 reply_status (Throttled level) = 500

@@ -15,7 +15,7 @@ use Rattle.record_fields.specs.Numbers.{number_of}
 use Rattle.record_fields.specs.Pairs.{pairs_of}
 use Rattle.record_fields.specs.Writing.{coded, field}
 use Rattle.admin_routes.specs.declared.routes.Route.{Route}
-use Rattle.admin_routes.specs.declared.routes.Route.TheVariants.{PutDocument, PutTemplate, Deploy, PutStage, PutCanary, Promote, PutKey, PutPlan, JoinKey, Grant, Usage, Shutdown}
+use Rattle.admin_routes.specs.declared.routes.Route.TheVariants.{PutDocument, PutTemplate, Deploy, PutStage, PutCanary, Promote, Flush, PutKey, PutPlan, JoinKey, Grant, Usage, Shutdown}
 
 -- a command, or why the body has none
 abbrev pub Asked : Type 0
@@ -122,6 +122,7 @@ asked_by (Deploy api) body = Ok (command.Deploy api)
 asked_by (PutStage api stage) body = stage_by api stage (fields_of body)
 asked_by (PutCanary api stage) body = canary_by api stage (fields_of body)
 asked_by (Promote api stage) body = Ok (command.PromoteCanary api stage)
+asked_by (Flush api stage) body = Ok (command.Flush api stage)
 asked_by (PutKey key) body = key_by key (fields_of body)
 asked_by (PutPlan plan) body = plan_by plan (fields_of body)
 asked_by (JoinKey plan key) body = Ok (command.JoinKey plan key)

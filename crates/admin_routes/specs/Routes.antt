@@ -9,7 +9,7 @@ use Rattle.admin_paths.specs.declared.paths.AdminPath.TheVariants as path
 use Rattle.call_facts.specs.declared.target.Target.{Target}
 use Rattle.record_fields.specs.Coding.{is_utf8, text_of}
 use Rattle.admin_routes.specs.declared.routes.Route.{Route}
-use Rattle.admin_routes.specs.declared.routes.Route.TheVariants.{PutDocument, PutTemplate, Deploy, PutStage, PutCanary, Promote, PutKey, PutPlan, JoinKey, Grant, Usage, Shutdown}
+use Rattle.admin_routes.specs.declared.routes.Route.TheVariants.{PutDocument, PutTemplate, Deploy, PutStage, PutCanary, Promote, Flush, PutKey, PutPlan, JoinKey, Grant, Usage, Shutdown}
 
 -- the first segment of the path is `_admin`, as it is written
 unfoldable pub is_admin : Target → Bool
@@ -45,6 +45,7 @@ verb_of (Deploy api) = codes "POST"
 verb_of (PutStage api stage) = codes "PUT"
 verb_of (PutCanary api stage) = codes "PUT"
 verb_of (Promote api stage) = codes "POST"
+verb_of (Flush api stage) = codes "POST"
 verb_of (PutKey key) = codes "PUT"
 verb_of (PutPlan plan) = codes "PUT"
 verb_of (JoinKey plan key) = codes "PUT"
@@ -60,6 +61,7 @@ route_of (path.Deployments api) = Deploy api
 route_of (path.Stage api stage) = PutStage api stage
 route_of (path.Canary api stage) = PutCanary api stage
 route_of (path.Promote api stage) = Promote api stage
+route_of (path.Flush api stage) = Flush api stage
 route_of (path.Key key) = PutKey key
 route_of (path.Plan plan) = PutPlan plan
 route_of (path.PlanKey plan key) = JoinKey plan key
@@ -81,6 +83,7 @@ path_of (Deploy api) = codes "apis" ∷ api ∷ codes "deployments" ∷ []
 path_of (PutStage api stage) = codes "apis" ∷ api ∷ codes "stages" ∷ stage ∷ []
 path_of (PutCanary api stage) = codes "apis" ∷ api ∷ codes "stages" ∷ stage ∷ codes "canary" ∷ []
 path_of (Promote api stage) = codes "apis" ∷ api ∷ codes "stages" ∷ stage ∷ codes "promote" ∷ []
+path_of (Flush api stage) = codes "apis" ∷ api ∷ codes "stages" ∷ stage ∷ codes "flush" ∷ []
 path_of (PutKey key) = codes "keys" ∷ key ∷ []
 path_of (PutPlan plan) = codes "plans" ∷ plan ∷ []
 path_of (JoinKey plan key) = codes "plans" ∷ plan ∷ codes "keys" ∷ key ∷ []
@@ -98,6 +101,7 @@ HasParameters (Deploy api) = IsParameter api
 HasParameters (PutStage api stage) = IsParameter api × IsParameter stage
 HasParameters (PutCanary api stage) = IsParameter api × IsParameter stage
 HasParameters (Promote api stage) = IsParameter api × IsParameter stage
+HasParameters (Flush api stage) = IsParameter api × IsParameter stage
 HasParameters (PutKey key) = IsParameter key
 HasParameters (PutPlan plan) = IsParameter plan
 HasParameters (JoinKey plan key) = IsParameter plan × IsParameter key

@@ -86,6 +86,9 @@ fn reply_text(alloc: Global, reply: &Reply) -> Result<Text, Memory>
         // These are replied to no command.
         Reply::NoStage
         | Reply::Entered(_)
+        | Reply::Remembered(_)
+        | Reply::NotRemembered
+        | Reply::Learned
         | Reply::Admitted { .. }
         | Reply::InvalidKey
         | Reply::Throttled { .. }
@@ -103,6 +106,9 @@ fn reply_status(reply: &Reply) -> u16
         Reply::Store
         | Reply::NoStage
         | Reply::Entered(_)
+        | Reply::Remembered(_)
+        | Reply::NotRemembered
+        | Reply::Learned
         | Reply::Admitted { .. }
         | Reply::InvalidKey
         | Reply::Throttled { .. }

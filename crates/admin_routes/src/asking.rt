@@ -132,6 +132,7 @@ pub fn ask_for(alloc: Global, route: Route, body: &[u8]) -> Result<Result<Comman
         }
         Route::PutCanary { api, stage } => ask_for_canary(alloc, api, stage, body),
         Route::Promote { api, stage } => Ok(Ok(Command::PromoteCanary { api, stage })),
+        Route::Flush { api, stage } => Ok(Ok(Command::Flush { api, stage })),
         Route::PutKey { key } => ask_for_key(alloc, key, body),
         Route::PutPlan { plan } => ask_for_plan(alloc, plan, body),
         Route::JoinKey { plan, key } => Ok(Ok(Command::JoinKey { plan, key })),

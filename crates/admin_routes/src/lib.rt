@@ -19,6 +19,7 @@
 //! | `PUT /_admin/apis/{api}/stages/{stage}` | `DEPLOYMENT`, and variables as `name=value`, parted by one space | PutStage |
 //! | `PUT /_admin/apis/{api}/stages/{stage}/canary` | `DEPLOYMENT SHARE`, and variables | PutCanary |
 //! | `POST /_admin/apis/{api}/stages/{stage}/promote` | | PromoteCanary |
+//! | `POST /_admin/apis/{api}/stages/{stage}/flush` | | Flush |
 //! | `PUT /_admin/keys/{key}` | `VALUE on` or `VALUE off` | PutKey |
 //! | `PUT /_admin/plans/{plan}` | `THROTTLE QUOTA`, and stages as `API/STAGE` | PutPlan |
 //! | `PUT /_admin/plans/{plan}/keys/{key}` | | JoinKey |

@@ -27,6 +27,8 @@ pub enum Route {
     PutCanary { api: Text, stage: Text },
     /// The canary of a stage becomes the stage's own deployment.
     Promote { api: Text, stage: Text },
+    /// The policies that are remembered at a stage are forgotten.
+    Flush { api: Text, stage: Text },
     /// A key gets its value, and is on or off.
     PutKey { key: Text },
     /// A plan gets its throttle, its quota and its stages.
@@ -78,6 +80,7 @@ fn route_at(verb: &str, path: AdminPath) -> Option<Route>
         AdminPath::Stage { api, stage } => ("PUT", Route::PutStage { api, stage }),
         AdminPath::Canary { api, stage } => ("PUT", Route::PutCanary { api, stage }),
         AdminPath::Promote { api, stage } => ("POST", Route::Promote { api, stage }),
+        AdminPath::Flush { api, stage } => ("POST", Route::Flush { api, stage }),
         AdminPath::Key { key } => ("PUT", Route::PutKey { key }),
         AdminPath::Plan { plan } => ("PUT", Route::PutPlan { plan }),
         AdminPath::PlanKey { plan, key } => ("PUT", Route::JoinKey { plan, key }),

@@ -9,7 +9,7 @@ use Rattle.keeper_core.specs.declared.rows.StageRow.{StageRow}
 use Rattle.book_rules.specs.History.{state_of, state_after}
 use Rattle.book_rules.specs.Machine.{State, entered, entered_as, is_taken, opened, outcome_of, time_of, told, viewed}
 use Rattle.book_rules.specs.Stored.{merged_in, variables_in}
-use Rattle.book_rules.specs.declared.events.Event.TheVariants.{Enter, Admit, Admin, Leave}
+use Rattle.book_rules.specs.declared.events.Event.TheVariants.{Enter, Recall, Learn, Admit, Admin, Leave}
 use Rattle.book_rules.specs.declared.events.Entry.{Entry}
 use Rattle.book_rules.specs.declared.events.Event.{Event}
 use Rattle.book_rules.specs.declared.replies.Reply.{Reply}
@@ -112,6 +112,8 @@ counts_at s place (Enter moment word api stage) kept counts =
     let first = entered_none s.lists 0 (time_of s moment) word (stage_row s.lists api stage) in
     same_counts (Enter moment word api stage) (entered s.lists place (time_of s moment) word (stage_row s.lists api stage)) (entered s.lists 0 (time_of s moment) word (stage_row s.lists api stage))
     kept counts (here.admitted ∙ sym first.admitted) (here.throttled ∙ sym first.throttled) (here.exceeded ∙ sym first.exceeded)
+counts_at s place (Recall moment name) kept counts = refl
+counts_at s place (Learn moment name policy ttl) kept counts = refl
 counts_at s place (Admit moment api stage value) kept counts = refl
 counts_at s place (Admin moment command) kept counts = refl
 counts_at s place (Leave status cause) kept counts = refl

@@ -34,11 +34,11 @@ use Rattle.book_rules.specs.Names.{is_key_value}
 use Rattle.book_rules.specs.Machine.{State, last_moment, put_kept, row_of, time_at, time_of}
 use Rattle.book_rules.specs.Outcomes.{Outcome, first_refusal, says, unless, writes}
 use Rattle.book_rules.specs.PlanCommands.{is_of_another, is_throttle, granted, grant_by, join_anew, join_by, join_tests, key_with, plan_of, put_key_tests, put_plan_tests, unused, usage_by, usage_shown, used_of}
-use Rattle.book_rules.specs.StageCommands.{canary_for, deployed, deployment_by, next_deployment, promote, promote_tests, put_api_tests, put_canary_tests, put_stage_tests}
+use Rattle.book_rules.specs.StageCommands.{canary_for, deployed, deployment_by, next_deployment, promote, promote_tests, put_api_tests, put_canary_tests, put_stage_tests, flush}
 use Rattle.book_rules.specs.declared.events.Command.{Command}
-use Rattle.book_rules.specs.declared.events.Command.TheVariants.{PutApi, Deploy, PutStage, PutCanary, PromoteCanary, PutKey, PutPlan, JoinKey, Grant, Usage, Shutdown}
+use Rattle.book_rules.specs.declared.events.Command.TheVariants.{PutApi, Deploy, PutStage, PutCanary, PromoteCanary, PutKey, PutPlan, JoinKey, Grant, Flush, Usage, Shutdown}
 use Rattle.book_rules.specs.declared.events.Event.{Event}
-use Rattle.book_rules.specs.declared.events.Event.TheVariants.{Enter, Admit, Admin, Leave}
+use Rattle.book_rules.specs.declared.events.Event.TheVariants.{Enter, Recall, Learn, Admit, Admin, Leave}
 use Rattle.book_rules.specs.declared.replies.Refusal.{Refusal}
 use Rattle.book_rules.specs.declared.replies.Refusal.TheVariants.{BadName, BadKey, ValueTaken, Full}
 use Rattle.book_rules.specs.declared.replies.Reply.TheVariants.{Deployed, InvalidKey, Refused}
@@ -142,6 +142,10 @@ key_taken lists key value none =
     ∷ [] in
     not_false (is_name key) (no_refusal (not (is_name key)) BadName later none).0
 
+flush_fits : (lists : Lists) (t : ℕ) (found : Option StageRow) → RowFits lists t (flush found)
+flush_fits lists t None = tt
+flush_fits lists t (Some row) = tt
+
 command_fits : (lists : Lists) (t : ℕ) (command : Command) → AreFit lists t → RowFits lists t (commanded lists t command)
 command_fits lists t (PutApi api definition) h = unless_fits lists t (first_refusal (put_api_tests lists api)) _ (λ none. tt)
 command_fits lists t (Deploy api) h = deployed_fits lists t (api_row lists api) (deployed lists api)
@@ -155,6 +159,7 @@ command_fits lists t (PutPlan plan throttle quota stages) h =
     unless_fits lists t (first_refusal (put_plan_tests lists plan throttle quota stages)) _ (λ none. plan_put_fits lists t plan throttle quota stages h none)
 command_fits lists t (JoinKey plan key) h = join_fits lists t plan key (plan_row lists plan) (key_row lists key) refl
 command_fits lists t (Grant plan key amount) h = grant_row lists t plan key amount h (join_row lists plan key) (plan_row lists plan) refl refl
+command_fits lists t (Flush api stage) h = flush_fits lists t (stage_row lists api stage)
 command_fits lists t (Usage plan key) h = usage_fits lists t (join_row lists plan key) (plan_row lists plan)
 command_fits lists t Shutdown h = tt
 
@@ -197,6 +202,8 @@ fits_at s moment h = fits_later s.lists s.latest (time_of s moment) (omega arith
 -- and behind it
 pub fits_after : (s : State) (event : Event) (kept : Bool) → AreFit s.lists s.latest → AreFit (put_kept (row_of s event) kept s.lists) (time_at s event)
 fits_after s (Enter moment word api stage) kept h = fits_at s moment h
+fits_after s (Recall moment name) kept h = fits_at s moment h
+fits_after s (Learn moment name policy ttl) kept h = fits_at s moment h
 fits_after s (Admit moment api stage value) kept h =
     kept_fits s.lists (time_of s moment) (row_of s (Admit moment api stage value)) kept
     (admission_fits s.lists (time_of s moment) (api, stage) (key_with s.lists value) (fits_at s moment h)) (fits_at s moment h)

@@ -2,6 +2,7 @@ mod Asking
 mod Entering
 mod Found
 mod Puts
+mod Remembering
 pub mod Sent
 mod Starting
 mod Stepping

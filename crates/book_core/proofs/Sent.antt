@@ -10,6 +10,10 @@ use Rattle.call_facts.proofs.vars.Vars.TheSendSync as vars
 use Rattle.gw_base.proofs.lists.Seq.TheSendSync as list
 use Rattle.gw_base.proofs.lists.Shared.TheSendSync as shared
 use Rattle.gw_base.proofs.name.Name.TheSendSync as name
+use Rattle.policy_core.proofs.policy.Policy.TheSendSync as policy
+use Rattle.policy_core.specs.contracts.policy.Policy as Policy
+use Rattle.policy_memory.proofs.lessons.PolicyMemory.TheSendSync as policies
+use Rattle.policy_memory.proofs.names.PolicyName.TheSendSync as policy_name
 use Rattle.usage_meter.proofs.allowance.Quota.TheSendSync as quota
 use Rattle.usage_meter.proofs.throttle.Throttle.TheSendSync as throttle
 use Rattle.book_rules.proofs.replies.Usage.TheSendSync as usage
@@ -53,21 +57,33 @@ stage_view_send = declared_send View.the_type (
   ),
 )
 
--- Entered, NoStage, Admitted, InvalidKey, Throttled, QuotaExceeded, Store, Left, Done, Deployed, Usage, Refused
+policy_shared : IsSend (Shared.the_row Policy.the_row)
+policy_shared = search (shared.the_send, policy.the_send, policy.the_sync, sendable) depth 20
+
+-- Entered, NoStage, Remembered, NotRemembered, Learned, Admitted, InvalidKey, Throttled, QuotaExceeded, Store, Left, Done, Deployed, Usage, Refused
 pub reply_send : IsSend Reply.the_row
 reply_send = variants_send Reply.enum (
   (stage_view_send, tt),
   (
     tt,
     (
-      (name.the_send, (name.the_send, tt)),
+      (policy_shared, tt),
       (
         tt,
         (
-          (search sendable, tt),
+          tt,
           (
-            (search sendable, (search sendable, tt)),
-            (tt, ((search sendable, tt), (tt, ((search sendable, tt), ((usage.the_send, tt), ((refusal.the_send, tt), tt)))))),
+            (name.the_send, (name.the_send, tt)),
+            (
+              tt,
+              (
+                (search sendable, tt),
+                (
+                  (search sendable, (search sendable, tt)),
+                  (tt, ((search sendable, tt), (tt, ((search sendable, tt), ((usage.the_send, tt), ((refusal.the_send, tt), tt)))))),
+                ),
+              ),
+            ),
           ),
         ),
       ),
@@ -75,7 +91,7 @@ reply_send = variants_send Reply.enum (
   ),
 )
 
--- PutApi, Deploy, PutStage, PutCanary, PromoteCanary, PutKey, PutPlan, JoinKey, Grant, Usage, Shutdown
+-- PutApi, Deploy, PutStage, PutCanary, PromoteCanary, PutKey, PutPlan, JoinKey, Grant, Flush, Usage, Shutdown
 command_send : IsSend Command.the_row
 command_send = variants_send Command.enum (
   (text.the_send, (search (shared.the_send, api_send, api_sync, sendable) depth 20, tt)),
@@ -99,7 +115,7 @@ command_send = variants_send Command.enum (
               ),
               (
                 (text.the_send, (text.the_send, tt)),
-                ((text.the_send, (text.the_send, (search sendable, tt))), ((text.the_send, (text.the_send, tt)), (tt, tt))),
+                ((text.the_send, (text.the_send, (search sendable, tt))), ((text.the_send, (text.the_send, tt)), ((text.the_send, (text.the_send, tt)), (tt, tt)))),
               ),
             ),
           ),
@@ -109,15 +125,21 @@ command_send = variants_send Command.enum (
   ),
 )
 
--- Enter, Admit, Admin, Leave
+-- Enter, Recall, Learn, Admit, Admin, Leave
 pub event_send : IsSend Event.the_row
 event_send = variants_send Event.enum (
   (search sendable, (search sendable, (text.the_send, (text.the_send, tt)))),
   (
-    (search sendable, (text.the_send, (text.the_send, (text.the_send, tt)))),
+    (search sendable, (policy_name.the_send, tt)),
     (
-      (search sendable, (command_send, tt)),
-      ((search sendable, (search (kind.the_send, sendable) depth 20, tt)), tt),
+      (search sendable, (policy_name.the_send, (policy_shared, (search sendable, tt)))),
+      (
+        (search sendable, (text.the_send, (text.the_send, (text.the_send, tt)))),
+        (
+          (search sendable, (command_send, tt)),
+          ((search sendable, (search (kind.the_send, sendable) depth 20, tt)), tt),
+        ),
+      ),
     ),
   ),
 )
@@ -147,9 +169,9 @@ ready_send = declared_send Ready.the_type (
   (Vec-send _ definition_send, (Vec-send _ standing_send, (index.the_send, (search (Vec-send, list.the_send, text.the_send, sendable) depth 20, tt)))),
 )
 
--- the tables, what their rows hold, the latest moment, whether the session is closing
+-- the tables, what their rows hold, the latest moment, whether the session is closing, the policies that are remembered
 current_send : IsSend Current.the_row
-current_send = declared_send Current.the_type (tables.the_send, (ready_send, (search sendable, (search sendable, tt))))
+current_send = declared_send Current.the_type (tables.the_send, (ready_send, (search sendable, (search sendable, (policies.the_send, tt)))))
 
 -- a book, where its keeper may: the keeper, the keeper behind its load, the opening tables, what stands, the history, its bytes, the limits, the counts
 pub book_send : (T : RattleType) (g : Ghosts T.Denot) → IsSend T → IsSend (Book.the_row T g)

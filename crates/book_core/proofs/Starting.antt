@@ -1,5 +1,5 @@
 -- How a book starts.
-use Rattle.std.proofs.Common.{◌≡◌, ◌⊎◌, inl, ℕ, ◌+◌, ◌-◌, ◌^◌, ◌≤◌, min, Bool, true, false, List, [], Option, Some, None, Result, Ok, Err, IfSome, ap, sym, ◌∙◌, refl, subst, arith}
+use Rattle.std.proofs.Common.{◌≡◌, ◌⊎◌, inl, ℕ, ◌+◌, ◌-◌, ◌^◌, ◌≤◌, min, Bool, true, false, List, [], length, Option, Some, None, Result, Ok, Err, IfSome, ap, sym, ◌∙◌, refl, subst, arith}
 use Rattle.std.specs.Option.{option_map}
 use Rattle.keeper_core.specs.Lists.{Lists}
 use Rattle.keeper_core.specs.Held.{Held}
@@ -8,11 +8,12 @@ use Rattle.keeper_core.specs.declared.keeper.LoadFault.{LoadFault}
 use Rattle.keeper_core.specs.declared.keeper.LoadFault.TheVariants.{BadRow, Failed}
 use Rattle.keeper_core.specs.declared.keeper.LoadFault.TheVariants as load
 use Rattle.keeper_core.specs.declared.table.Table.{Table}
+use Rattle.policy_memory.specs.Kept.{Kept, Remembers}
 use Rattle.book_rules.proofs.Histories.{state_after-nil, plan_after-nil}
 use Rattle.book_rules.specs.History.{Base, state_after, tables_after, plan_after, not_kept}
 use Rattle.book_rules.specs.Machine.{opened}
 use Rattle.book_rules.specs.declared.events.Entry.{Entry}
-use Rattle.book_core.specs.Books.{Keeps}
+use Rattle.book_core.specs.Books.{Keeps, happened_after}
 use Rattle.book_core.specs.Starts.{StartFails, IsNamed, FailsAt, is_store_fault, fault_of}
 
 -- a load fails exactly where it is told to
@@ -64,5 +65,14 @@ pub keeps_first : (base : Base) (entries : List Entry) (now : KeeperFacts) → e
 keeps_first base entries now none same staged loaded = subst (λ e. Keeps base e now) (sym none) (keeps_none base now same staged loaded)
 
 -- what stands before the first entry
+pub remembers_first : (opening : Lists) (entries : List Entry) (policies : Kept) → entries ≡ [] → Remembers [] 0 policies
+    → Remembers (happened_after opening entries) (length entries) policies
+remembers_first opening entries policies none first =
+    subst (λ e. Remembers (happened_after opening e) (length e) policies) (sym none)
+    (subst (λ s. Remembers s.happened 0 policies) (sym (state_after-nil opening)) first)
+
+pub stands_happened : (opening : Lists) (entries : List Entry) → entries ≡ [] → [] ≡ happened_after opening entries
+stands_happened opening entries none = ap (λ s. s.happened) (sym (state_after-nil opening)) ∙ ap (happened_after opening) (sym none)
+
 pub stands_first : (opening : Lists) (entries : List Entry) → entries ≡ [] → opened opening ≡ state_after opening entries
 stands_first opening entries none = sym (state_after-nil opening) ∙ ap (state_after opening) (sym none)

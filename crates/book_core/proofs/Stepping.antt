@@ -1,19 +1,20 @@
 -- What a step leaves.
-use Rattle.std.proofs.Common.{◌≡◌, ℕ, ◌+◌, ◌-◌, ◌^◌, ◌≤◌, min, Bool, true, false, List, [], ◌∷◌, ◌++◌, length, cond, Option, Some, None, IfSome, ap, sym, ◌∙◌, refl, subst, arith}
+use Rattle.std.proofs.Common.{◌≡◌, ℕ, ◌+◌, ◌-◌, ◌^◌, ◌≤◌, min, Bool, true, false, List, [], ◌∷◌, ◌++◌, length, length-append, cond, Option, Some, None, IfSome, ap, sym, ◌∙◌, refl, subst, arith}
 use Rattle.std.specs.Prelude.{sum_by, is_some}
 use Rattle.std.specs.Option.{option_map}
 use Rattle.std.proofs.lemmas.List.Sums.{sum_by-append}
 use Rattle.std.proofs.lemmas.Grind.{common_steps}
+use Rattle.policy_memory.specs.Kept.{Kept, Remembers}
 use Rattle.keeper_core.specs.Lists.{Lists}
 use Rattle.keeper_core.specs.Keeping.{KeeperFacts, Planned}
 use Rattle.keeper_core.specs.declared.rows.Row.{Row}
 use Rattle.book_rules.proofs.Histories.{state_after-more, plan_after-more}
-use Rattle.book_rules.specs.Machine.{State, row_of, put_kept, outcome_of, told}
+use Rattle.book_rules.specs.Machine.{State, happened_behind, row_of, put_kept, outcome_of, told}
 use Rattle.book_rules.specs.History.{Base, Answers, IsAsPlanned, state_after, tables_after, plan_after, calls_of, is_changing, is_full, keeps, not_kept, reply, rewrites}
 use Rattle.book_rules.specs.Times.{IsInTime}
 use Rattle.book_rules.specs.declared.events.Entry.{Entry}
 use Rattle.book_rules.specs.declared.replies.Reply.{Reply}
-use Rattle.book_core.specs.Books.{Keeps}
+use Rattle.book_core.specs.Books.{Keeps, happened_after}
 use Rattle.book_core.specs.Keeps.{Went, WentAsPlanned}
 
 told_more : (opening : Lists) (history : List Entry) (entry : Entry) (before now : Option Lists)
@@ -71,3 +72,11 @@ answers_at base history entry answer before now h went room is in_time =
       else_kept = went.else_kept;
       planned = as_planned base history entry base.start.planned before.planned now.planned h.planned went.planned;
     }
+
+-- and so the policies are remembered
+pub remembers_more : (opening : Lists) (history : List Entry) (entry : Entry) (items : List Entry) (policies : Kept) → items ≡ history ++ entry ∷ []
+    → Remembers (happened_behind (state_after opening history) entry.event) (length history + 1) policies → Remembers (happened_after opening items) (length items) policies
+remembers_more opening history entry items policies same r =
+    subst (λ h. Remembers (happened_after opening h) (length h) policies) (sym same)
+    (subst (λ n. Remembers (happened_after opening (history ++ entry ∷ [])) n policies) (sym (length-append history (entry ∷ [])))
+    (subst (λ s. Remembers s.happened (length history + 1) policies) (sym (state_after-more opening history entry)) r))

@@ -3,6 +3,8 @@ use Rattle.std.proofs.Common.{◌≡◌, ℕ, ◌+◌, ◌-◌, ◌^◌, ◌≤�
 use Rattle.std.specs.Prelude.{is_some, nat_le}
 use Rattle.gw_base.specs.Outside.{Rose}
 use Rattle.call_facts.specs.declared.vars.Vars.{Vars}
+use Rattle.policy_core.specs.declared.policy.Policy.{Policy}
+use Rattle.policy_memory.specs.Remembered.{remembered}
 use Rattle.usage_meter.specs.Allowances.{allowance_at}
 use Rattle.usage_meter.specs.declared.allowance.Allowance.{Allowance}
 use Rattle.usage_meter.specs.declared.period.Period.{Period}
@@ -24,15 +26,15 @@ use Rattle.keeper_core.specs.Keeping.{KeeperFacts}
 use Rattle.book_rules.specs.Admissions.{admitted_by, admitted_under, admitted_with, decided, plan_for}
 use Rattle.book_rules.specs.Commands.{commanded}
 use Rattle.book_rules.specs.Limits.{most_deployments}
-use Rattle.book_rules.specs.Machine.{State, is_taken, viewed, entered, entered_as, outcome_of, row_of, told, time_of}
+use Rattle.book_rules.specs.Machine.{State, is_taken, viewed, entered, entered_as, outcome_of, recalled, row_of, told, time_of}
 use Rattle.book_rules.specs.Outcomes.{Outcome, first_refusal, says, unless}
 use Rattle.book_rules.specs.PlanCommands.{key_with, put_key_tests, put_plan_tests, join_tests, join_by, join_anew, granted, grant_by, usage_by, usage_shown, used_of}
-use Rattle.book_rules.specs.StageCommands.{deployment_by, put_api_tests, put_stage_tests, put_canary_tests, canary_for, promote, promote_tests, deployed}
+use Rattle.book_rules.specs.StageCommands.{deployment_by, put_api_tests, put_stage_tests, put_canary_tests, canary_for, promote, promote_tests, deployed, flush}
 use Rattle.book_rules.specs.Stored.{merged_in, variables_in}
 use Rattle.book_rules.specs.declared.events.Command.{Command}
-use Rattle.book_rules.specs.declared.events.Command.TheVariants.{PutApi, Deploy, PutStage, PutCanary, PromoteCanary, PutKey, PutPlan, JoinKey, Grant, Usage, Shutdown}
+use Rattle.book_rules.specs.declared.events.Command.TheVariants.{PutApi, Deploy, PutStage, PutCanary, PromoteCanary, PutKey, PutPlan, JoinKey, Grant, Flush, Usage, Shutdown}
 use Rattle.book_rules.specs.declared.events.Event.{Event}
-use Rattle.book_rules.specs.declared.events.Event.TheVariants.{Enter, Admit, Admin, Leave}
+use Rattle.book_rules.specs.declared.events.Event.TheVariants.{Enter, Recall, Learn, Admit, Admin, Leave}
 use Rattle.book_rules.specs.declared.replies.Refusal.{Refusal}
 use Rattle.book_rules.specs.declared.replies.Reply.{Reply}
 use Rattle.book_rules.specs.declared.replies.Reply.TheVariants.{InvalidKey, Store}
@@ -101,6 +103,10 @@ usage_otherwise None plan t e = cc
 usage_otherwise (Some row) None t e = cc
 usage_otherwise (Some row) (Some plan) t e = shown_otherwise (allowance_at (tally_in row).allowance (terms_in plan).quota t) e
 
+flush_otherwise : (found : Option StageRow) → (flush found).reply ≡ Store → ⊥
+flush_otherwise None e = cc
+flush_otherwise (Some row) e = cc
+
 commanded_otherwise : (lists : Lists) (t : ℕ) (command : Command) → (commanded lists t command).reply ≡ Store → ⊥
 commanded_otherwise lists t (PutApi api definition) e = unless_otherwise (first_refusal (put_api_tests lists api)) _ (λ x. cc) e
 commanded_otherwise lists t (Deploy api) e = deployed_otherwise (api_row lists api) (deployed lists api) e
@@ -112,6 +118,7 @@ commanded_otherwise lists t (PutKey key value enabled) e = unless_otherwise (fir
 commanded_otherwise lists t (PutPlan plan throttle quota stages) e = unless_otherwise (first_refusal (put_plan_tests lists plan throttle quota stages)) _ (λ x. cc) e
 commanded_otherwise lists t (JoinKey plan key) e = join_otherwise lists t plan key (plan_row lists plan) (key_row lists key) e
 commanded_otherwise lists t (Grant plan key amount) e = grant_otherwise (join_row lists plan key) (plan_row lists plan) amount t e
+commanded_otherwise lists t (Flush api stage) e = flush_otherwise (stage_row lists api stage) e
 commanded_otherwise lists t (Usage plan key) e = usage_otherwise (join_row lists plan key) (plan_row lists plan) t e
 commanded_otherwise lists t Shutdown e = cc
 
@@ -138,8 +145,14 @@ with_otherwise : (lists : Lists) (t : ℕ) (stage : List ℕ × List ℕ) (found
 with_otherwise lists t stage None e = cc
 with_otherwise lists t stage (Some row) e = enabled_otherwise lists t row.key (plan_for lists stage row.key) (row.enabled == 1) e
 
+recalled_otherwise : (found : Option Policy) → recalled found ≡ Store → ⊥
+recalled_otherwise None e = cc
+recalled_otherwise (Some policy) e = cc
+
 outcome_otherwise : (state : State) (place : ℕ) (event : Event) → (outcome_of state place event).reply ≡ Store → ⊥
 outcome_otherwise state place (Enter moment word api stage) e = entered_otherwise state.lists place (time_of state moment) word (stage_row state.lists api stage) e
+outcome_otherwise state place (Recall moment name) e = recalled_otherwise (remembered state.happened name (time_of state moment)) e
+outcome_otherwise state place (Learn moment name policy ttl) e = cc
 outcome_otherwise state place (Admit moment api stage value) e = with_otherwise state.lists (time_of state moment) (api, stage) (key_with state.lists value) e
 outcome_otherwise state place (Admin moment command) e = commanded_otherwise state.lists (time_of state moment) command e
 outcome_otherwise state place (Leave status cause) e = cc

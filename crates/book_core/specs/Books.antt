@@ -8,16 +8,18 @@ use Rattle.book_rules.specs.Good.{bad_row}
 use Rattle.book_rules.specs.History.{Base, state_of, state_after, tables_after, plan_after, total_size, not_kept, is_full}
 use Rattle.book_rules.specs.Machine.{State, opened, outcome_of, told}
 use Rattle.book_rules.specs.declared.replies.Reply.{Reply}
-use Rattle.book_rules.specs.declared.replies.Reply.TheVariants.{Entered, NoStage, Admitted, InvalidKey, Throttled, QuotaExceeded, Store, Left, Done, Deployed, Refused}
+use Rattle.book_rules.specs.declared.replies.Reply.TheVariants.{Entered, NoStage, Remembered, NotRemembered, Learned, Admitted, InvalidKey, Throttled, QuotaExceeded, Store, Left, Done, Deployed, Refused}
 use Rattle.book_rules.specs.declared.replies.Reply.TheVariants.{Usage as Used}
 use Rattle.book_rules.specs.declared.events.Entry.{Entry}
 use Rattle.book_rules.specs.declared.events.Event.{Event}
-use Rattle.book_rules.specs.declared.events.Event.TheVariants.{Enter, Admit, Admin, Leave}
+use Rattle.book_rules.specs.declared.events.Event.TheVariants.{Enter, Recall, Learn, Admit, Admin, Leave}
 use Rattle.book_core.specs.declared.counts.Counts.{Counts}
 use Rattle.book_core.specs.declared.book.StepFault.{StepFault}
 use Rattle.book_core.specs.declared.book.StepFault.TheVariants.{SessionFull, Memory}
 use Rattle.book_rules.specs.declared.events.Limits.{Limits}
 use Rattle.book_opening.specs.Ready.{AreReady}
+use Rattle.policy_memory.specs.Kept.{Remembers}
+use Rattle.policy_memory.specs.Remembered.{Happening}
 use Rattle.book_core.specs.Standing.{standing}
 use Rattle.book_core.specs.declared.current.Current.{Current}
 
@@ -38,6 +40,8 @@ pub record BookFacts (K : Type 0) : Type 0 where
 -- How often a session was called, how its calls for admission were replied, and how many changes it did not keep.
 abbrev pub is_call : Event → Bool
 is_call (Enter moment word api stage) = true
+is_call (Recall moment name) = false
+is_call (Learn moment name policy ttl) = false
 is_call (Admit moment api stage value) = false
 is_call (Admin moment command) = false
 is_call (Leave status cause) = false
@@ -83,11 +87,16 @@ counts_by opening (newest ∷ older) = counted_with newest.event (replied (state
 unfoldable pub counts_of : Lists → List Entry → Counts
 counts_of opening history = counts_by opening (reverse history)
 
+-- what happened to the policies that are remembered, the newest first
+abbrev pub happened_after : Lists → List Entry → List Happening
+happened_after opening history = (state_after opening history).happened
+
 -- the tables that a book opened with are good, and those that stand are the history's, with what they hold ready and rows that may stand;
--- the history is within its limits, with room for all of it, and counted
+-- the policies are remembered that were learned in the history; it is within its limits, with room for all of it, and counted
 pub record IsBook (base : Base) (history : List Entry) (keeper : KeeperFacts) (current : Current) (room bytes : ℕ) (counts : Counts) : Type 0 where
   pub good : bad_row base.opening ≡ None
-  pub stands : standing current ≡ state_after base.opening history
+  pub stands : standing (happened_after base.opening history) current ≡ state_after base.opening history
+  pub remembers : Remembers (happened_after base.opening history) (length history) current.policies
   pub ready : AreReady current.tables.lists current.ready
   pub fits : AreFit current.tables.lists current.latest
   pub keeps : Keeps base history keeper

@@ -1,14 +1,16 @@
 -- What stands after the entries of a history.
 use Rattle.book_rules.specs.Machine.{State}
-use Rattle.std.specs.Prelude.{ℕ, Bool, false, Option, Some, None, if◌then◌else◌}
+use Rattle.std.specs.Prelude.{ℕ, Bool, false, List, Option, Some, None, if◌then◌else◌}
 use Rattle.call_facts.specs.declared.vars.Vars.{Vars}
+use Rattle.policy_memory.specs.Remembered.{Happening}
 use Rattle.stage_canary.specs.Canaries.{takes_canary}
 use Rattle.book_opening.specs.declared.ready.Canary.{Canary}
 use Rattle.book_opening.specs.declared.ready.Standing.{Standing as Ready}
 use Rattle.book_core.specs.declared.current.Current.{Current}
 
-abbrev pub standing : Current → State
-standing current = record { lists = current.tables.lists; latest = current.latest; closing = current.closing }
+-- where this happened to the policies that are remembered, the newest first
+abbrev pub standing : List Happening → Current → State
+standing happened current = record { lists = current.tables.lists; latest = current.latest; closing = current.closing; happened = happened }
 
 -- the number of the canary's deployment of a stage that is ready, 0 where it has none
 abbrev pub number_of_canary : Option Canary → ℕ

@@ -24,7 +24,11 @@ fn is_call(event: &Event) -> bool
 {
     match event {
         Event::Enter { .. } => true,
-        Event::Admit { .. } | Event::Admin { .. } | Event::Leave { .. } => false,
+        Event::Recall { .. }
+        | Event::Learn { .. }
+        | Event::Admit { .. }
+        | Event::Admin { .. }
+        | Event::Leave { .. } => false,
     }
 }
 

@@ -1,11 +1,17 @@
 // What stands after the entries of a history, and how an event changes it.
-ghost use Rattle.std.specs.Prelude.{◌≡◌, ℕ, true, false, [], Some, None, Bool, IfOk, IfSome, OnErr, is_some};
+ghost use Rattle.std.specs.Prelude.{◌≡◌, ◌+◌, ℕ, true, false, List, [], Some, None, Bool, IfOk, IfSome, OnOk, OnErr, is_some};
 ghost use Rattle.keeper_core.specs.Lists.{join_row, stage_row};
 ghost use Rattle.keeper_core.specs.declared.rows.Row.TheVariants.{Join as join_of, Key as key_of};
 ghost use Rattle.book_rules.specs.Fits.{AreFit};
-ghost use Rattle.book_rules.specs.History.{rewrites};
+ghost use Rattle.book_rules.specs.Commands.{commanded};
+ghost use Rattle.book_rules.specs.History.{rewrites, rewrites_by};
+ghost use Rattle.book_rules.specs.Outcomes.{says};
+ghost use Rattle.book_rules.specs.StageCommands.{flush as flush_of};
+ghost use Rattle.book_rules.specs.declared.events.Event.TheVariants.{Admin as admin_of};
 ghost use Rattle.book_rules.specs.PlanCommands.{is_of_another, key_with};
-ghost use Rattle.book_rules.specs.Machine.{time_of, entered, outcome_of, row_of, told, after, put_kept, takes_memory, is_entered};
+ghost use Rattle.book_rules.specs.Machine.{time_of, entered, outcome_of, row_of, told, after, put_kept, takes_memory, is_shared, flushed_at, happened_by, happened_behind, wants_memory};
+ghost use Rattle.policy_memory.specs.Kept.{Remembers};
+ghost use Rattle.policy_memory.specs.Remembered.{Happening};
 ghost use Rattle.book_opening.specs.Ready.{AreReady};
 ghost use Rattle.book_core.specs.Changes.{IsHeldBy, IsMeant, IsReadyIn, outcome_in};
 ghost use Rattle.book_core.specs.Keeps.{Went, Stays};
@@ -15,25 +21,29 @@ use crate::admitting::admit;
 use crate::changes::{Change, Prepared, put, reserve_held};
 use crate::finds::{find_deployment, find_stage, keys_ascend};
 use crate::naming::{enter_value, leave_old, leave_value, named_in};
+use crate::policies::{Learning, learn, recall};
 use crate::prepare::prepare;
 use book_opening::{Ready, Standing};
-use book_rules::{Command, Event, Reply, View};
+use book_rules::{Command, Event, Refusal, Reply, View};
 use call_facts::Vars;
 use gw_base::{Memory, Shared, Text};
 use keeper_core::{JoinRow, KeepFault, Keeper, KeyRow, Row, Table, Tables, keep};
+use policy_memory::PolicyMemory;
 use stage_canary::takes_canary;
 use std::alloc::Global;
 
 /// The last moment of the year 2099; a later one is read as this.
 const LAST_MOMENT: u64 = 4_102_444_799_999;
 
-/// The tables as they stand with what their rows hold, the latest moment, and whether the session is closing.
+/// The tables as they stand with what their rows hold, the latest moment, whether the session is closing, and the policies that are
+/// remembered.
 #[derive(Drop)]
 pub struct Current {
     pub tables: Tables,
     pub ready: Ready,
     pub latest: u64,
     pub closing: bool,
+    pub policies: PolicyMemory,
 }
 
 /// The reply to an event, and whether its change was kept.
@@ -45,7 +55,7 @@ pub struct Taken {
 
 #[tactic(auto, unfolding(book_rules::specs::Machine::last_moment))]
 fn later(current: &Current, moment: u64) -> u64
-    ensures { result ≡ time_of (standing current.now) moment }
+    ensures { result ≡ time_of (standing [] current.now) moment }
 {
     moment.min(LAST_MOMENT).max(current.latest)
 }
@@ -53,7 +63,7 @@ fn later(current: &Current, moment: u64) -> u64
 // When an event of this moment happens: then too the rows may stand.
 fn time(current: &Current, moment: u64) -> u64
     requires fits { AreFit current.now.tables.lists current.now.latest }
-    ensures value { result ≡ time_of (standing current.now) moment }
+    ensures value { result ≡ time_of (standing [] current.now) moment }
     ensures fits { AreFit current.now.tables.lists result }
 {
     later(current, moment)
@@ -105,7 +115,7 @@ fn enter(
 ) -> Result<Reply, Memory>
     requires ready { AreReady tables.now.lists ready.now }
     ensures reply { IfOk result (λ reply. reply ≡ entered tables.now.lists entering.place entering.at entering.word (stage_row tables.now.lists api.now stage.now)) }
-    ensures memory { OnErr result (is_entered (entered tables.now.lists entering.place entering.at entering.word (stage_row tables.now.lists api.now stage.now)) ≡ true) }
+    ensures memory { OnErr result (is_shared (entered tables.now.lists entering.place entering.at entering.word (stage_row tables.now.lists api.now stage.now)) ≡ true) }
 {
     let Some(stands) = find_stage(tables, ready, api.as_str(), stage.as_str()) else {
         return Ok(Reply::NoStage);
@@ -141,6 +151,7 @@ fn write<K: Keeper>(
     ensures ready { AreReady current.new.tables.lists current.new.ready }
     ensures latest { current.new.latest ≡ current.old.latest }
     ensures closing { current.new.closing ≡ current.old.closing }
+    ensures policies { current.new.policies ≡ current.old.policies }
     ensures err { OnErr result (current.new.tables.lists ≡ current.old.tables.lists) }
     ensures stays { OnErr result (Stays (K.facts keeper.old) (K.facts keeper.new)) }
 {
@@ -176,6 +187,7 @@ fn name_key<K: Keeper>(
     ensures ready { AreReady current.new.tables.lists current.new.ready }
     ensures latest { current.new.latest ≡ current.old.latest }
     ensures closing { current.new.closing ≡ current.old.closing }
+    ensures policies { current.new.policies ≡ current.old.policies }
     ensures err { OnErr result (current.new.tables.lists ≡ current.old.tables.lists) }
     ensures stays { OnErr result (Stays (K.facts keeper.old) (K.facts keeper.new)) }
 {
@@ -225,6 +237,7 @@ fn rewrite<K: Keeper>(
     ensures ready { AreReady current.new.tables.lists current.new.ready }
     ensures latest { current.new.latest ≡ current.old.latest }
     ensures closing { current.new.closing ≡ current.old.closing }
+    ensures policies { current.new.policies ≡ current.old.policies }
     ensures err { OnErr result (current.new.tables.lists ≡ current.old.tables.lists) }
     ensures stays { OnErr result (Stays (K.facts keeper.old) (K.facts keeper.new)) }
 {
@@ -258,6 +271,7 @@ fn carry_out<K: Keeper>(
     ensures ready { AreReady current.new.tables.lists current.new.ready }
     ensures latest { current.new.latest ≡ current.old.latest }
     ensures closing { current.new.closing ≡ current.old.closing }
+    ensures policies { current.new.policies ≡ current.old.policies }
     ensures err { OnErr result (current.new.tables.lists ≡ current.old.tables.lists) }
     ensures stays { OnErr result (Stays (K.facts keeper.old) (K.facts keeper.new)) }
     ensures memory { OnErr result (takes_memory (outcome_in prepared) ≡ true) }
@@ -267,6 +281,97 @@ fn carry_out<K: Keeper>(
         Prepared::Writes(change) => write(current, keeper, alloc, change),
         Prepared::Names(row) => name_key(current, keeper, alloc, row),
         Prepared::Rewrites(row, reply) => rewrite(current, keeper, alloc, &row, reply),
+    }
+}
+
+// Forgets the policies of a stage that stands. An `Err` changes nothing.
+fn flush(
+    current: &mut Current,
+    alloc: Global,
+    place: u64,
+    api: &Text,
+    stage: &Text,
+) -> Result<Taken, Memory>
+    ensures reply { IfOk result (λ taken. says taken.reply ≡ flush_of (stage_row current.old.tables.lists api.now stage.now)) }
+    ensures kept { IfOk result (λ taken. taken.kept ≡ true) }
+    ensures remembers { (happened : List Happening) → Remembers happened place current.old.policies
+        → OnOk result (Remembers (flushed_at (stage_row current.old.tables.lists api.now stage.now) api.now stage.now happened) (place + 1) current.new.policies) }
+    ensures tables { current.new.tables ≡ current.old.tables }
+    ensures ready { current.new.ready ≡ current.old.ready }
+    ensures latest { current.new.latest ≡ current.old.latest }
+    ensures closing { current.new.closing ≡ current.old.closing }
+    ensures unchanged { OnErr result (current.new.policies ≡ current.old.policies) }
+{
+    if current.tables.stage(api.as_str(), stage.as_str()).is_none() {
+        return Ok(Taken {
+            reply: Reply::Refused(Refusal::NoStage),
+            kept: true,
+        });
+    }
+    let policies = &mut current.policies;
+    policies.flush(alloc, api.as_str(), stage.as_str(), place)?;
+    Ok(Taken {
+        reply: Reply::Done,
+        kept: true,
+    })
+}
+
+// Carries out a command that is no Flush, at this moment. An `Err` changes nothing.
+fn command<K: Keeper>(
+    current: &mut Current,
+    keeper: &mut K,
+    alloc: Global,
+    at: u64,
+    command: &Command,
+) -> Result<Taken, Memory>
+    requires ready { AreReady current.old.tables.lists current.old.ready }
+    requires fits { AreFit current.old.tables.lists at }
+    requires told { IfSome (K.facts keeper.old).tables (λ lists. lists ≡ current.old.tables.lists) }
+    requires nothing_staged { (K.facts keeper.old).staged ≡ [] }
+    ensures reply { IfOk result (λ taken. taken.reply ≡ told (is_some (commanded current.old.tables.lists at command.now).row) (commanded current.old.tables.lists at command.now).reply taken.kept) }
+    ensures lists { IfOk result (λ taken. current.new.tables.lists ≡ put_kept (commanded current.old.tables.lists at command.now).row taken.kept current.old.tables.lists) }
+    ensures keeper { IfOk result (λ taken. Went (rewrites_by command.now) (commanded current.old.tables.lists at command.now).row taken.kept (K.facts keeper.old) (K.facts keeper.new)) }
+    ensures ready { AreReady current.new.tables.lists current.new.ready }
+    ensures latest { current.new.latest ≡ current.old.latest }
+    ensures closing { current.new.closing ≡ current.old.closing }
+    ensures policies { current.new.policies ≡ current.old.policies }
+    ensures err { OnErr result (current.new.tables.lists ≡ current.old.tables.lists) }
+    ensures stays { OnErr result (Stays (K.facts keeper.old) (K.facts keeper.new)) }
+    ensures memory { OnErr result (takes_memory (commanded current.old.tables.lists at command.now) ≡ true) }
+{
+    let prepared = prepare(&current.tables, &current.ready, alloc, at, command)?;
+    carry_out(current, keeper, alloc, prepared)
+}
+
+// Takes a command at this place and moment. An `Err` changes nothing.
+fn administer<K: Keeper>(
+    current: &mut Current,
+    keeper: &mut K,
+    alloc: Global,
+    place: u64,
+    at: u64,
+    asked: &Command,
+) -> Result<Taken, Memory>
+    requires ready { AreReady current.old.tables.lists current.old.ready }
+    requires fits { AreFit current.old.tables.lists at }
+    requires told { IfSome (K.facts keeper.old).tables (λ lists. lists ≡ current.old.tables.lists) }
+    requires nothing_staged { (K.facts keeper.old).staged ≡ [] }
+    ensures reply { IfOk result (λ taken. taken.reply ≡ told (is_some (commanded current.old.tables.lists at asked.now).row) (commanded current.old.tables.lists at asked.now).reply taken.kept) }
+    ensures lists { IfOk result (λ taken. current.new.tables.lists ≡ put_kept (commanded current.old.tables.lists at asked.now).row taken.kept current.old.tables.lists) }
+    ensures remembers { (happened : List Happening) → Remembers happened place current.old.policies
+        → OnOk result (Remembers (happened_by (standing happened current.old) asked.now) (place + 1) current.new.policies) }
+    ensures keeper { IfOk result (λ taken. Went (rewrites_by asked.now) (commanded current.old.tables.lists at asked.now).row taken.kept (K.facts keeper.old) (K.facts keeper.new)) }
+    ensures ready { AreReady current.new.tables.lists current.new.ready }
+    ensures latest { current.new.latest ≡ current.old.latest }
+    ensures closing { current.new.closing ≡ current.old.closing }
+    ensures err { OnErr result (current.new.tables.lists ≡ current.old.tables.lists) }
+    ensures unchanged { OnErr result (current.new.policies ≡ current.old.policies) }
+    ensures stays { OnErr result (Stays (K.facts keeper.old) (K.facts keeper.new)) }
+    ensures memory { (moment : ℕ) → OnErr result (wants_memory (admin_of moment asked.now) (commanded current.old.tables.lists at asked.now) ≡ true) }
+{
+    match asked {
+        Command::Flush { api, stage } => flush(current, alloc, place, api, stage),
+        _ => command(current, keeper, alloc, at, asked),
     }
 }
 
@@ -282,13 +387,19 @@ pub fn take<K: Keeper>(
     requires fits { AreFit current.old.tables.lists current.old.latest }
     requires told { IfSome (K.facts keeper.old).tables (λ lists. lists ≡ current.old.tables.lists) }
     requires nothing_staged { (K.facts keeper.old).staged ≡ [] }
-    ensures reply { IfOk result (λ taken. taken.reply ≡ told (is_some (row_of (standing current.old) event.now)) (outcome_of (standing current.old) place event.now).reply taken.kept) }
-    ensures stands { (seat : ℕ) → IfOk result (λ taken. standing current.new ≡ after (standing current.old) (record { seat = seat; event = event.now; kept = taken.kept })) }
-    ensures keeper { IfOk result (λ taken. Went (rewrites event.now) (row_of (standing current.old) event.now) taken.kept (K.facts keeper.old) (K.facts keeper.new)) }
+    ensures reply { (happened : List Happening) → Remembers happened place current.old.policies
+        → IfOk result (λ taken. taken.reply ≡ told (is_some (row_of (standing happened current.old) event.now)) (outcome_of (standing happened current.old) place event.now).reply taken.kept) }
+    ensures stands { (happened : List Happening) (seat : ℕ)
+        → IfOk result (λ taken. standing (happened_behind (standing happened current.old) event.now) current.new ≡ after (standing happened current.old) (record { seat = seat; event = event.now; kept = taken.kept })) }
+    ensures remembers { (happened : List Happening) → Remembers happened place current.old.policies
+        → OnOk result (Remembers (happened_behind (standing happened current.old) event.now) (place + 1) current.new.policies) }
+    ensures keeper { (happened : List Happening) → IfOk result (λ taken. Went (rewrites event.now) (row_of (standing happened current.old) event.now) taken.kept (K.facts keeper.old) (K.facts keeper.new)) }
     ensures ready { AreReady current.new.tables.lists current.new.ready }
-    ensures err { OnErr result (standing current.new ≡ standing current.old) }
+    ensures err { (happened : List Happening) → OnErr result (standing happened current.new ≡ standing happened current.old) }
+    ensures unchanged { OnErr result (current.new.policies ≡ current.old.policies) }
     ensures stays { OnErr result (Stays (K.facts keeper.old) (K.facts keeper.new)) }
-    ensures memory { OnErr result (takes_memory (outcome_of (standing current.old) place event.now) ≡ true) }
+    ensures memory { (happened : List Happening) → Remembers happened place current.old.policies
+        → OnErr result (wants_memory event.now (outcome_of (standing happened current.old) place event.now) ≡ true) }
 {
     match event {
         Event::Enter {
@@ -306,6 +417,31 @@ pub fn take<K: Keeper>(
             let reply = enter(&current.tables, &current.ready, entering, api, stage)?;
             current.latest = at;
             Ok(Taken { reply, kept: true })
+        }
+        Event::Recall { moment, name } => {
+            let at = time(current, *moment);
+            let reply = recall(&current.policies, name, at)?;
+            current.latest = at;
+            Ok(Taken { reply, kept: true })
+        }
+        Event::Learn {
+            moment,
+            name,
+            policy,
+            ttl,
+        } => {
+            let at = time(current, *moment);
+            let learning = Learning {
+                place,
+                at,
+                ttl: *ttl,
+            };
+            learn(&mut current.policies, alloc, learning, name, policy)?;
+            current.latest = at;
+            Ok(Taken {
+                reply: Reply::Learned,
+                kept: true,
+            })
         }
         Event::Admit {
             moment,
@@ -329,8 +465,7 @@ pub fn take<K: Keeper>(
         }
         Event::Admin { moment, command } => {
             let at = time(current, *moment);
-            let prepared = prepare(&current.tables, &current.ready, alloc, at, command)?;
-            let taken = carry_out(current, keeper, alloc, prepared)?;
+            let taken = administer(current, keeper, alloc, place, at, command)?;
             current.latest = at;
             if let Command::Shutdown = command {
                 current.closing = true;

@@ -40,6 +40,7 @@ mod names;
 mod naming;
 mod plan_changes;
 mod plans;
+mod policies;
 mod prepare;
 mod sizes;
 mod stage_changes;

@@ -9,7 +9,7 @@ ghost use Rattle.book_core.specs.Changes.{IsMeant, IsPrepared};
 
 use crate::changes::Prepared;
 use crate::plan_changes::{grant, join_key, put_key, put_plan, show_usage};
-use crate::stage_changes::{deploy, promote, put_api, put_canary, put_stage};
+use crate::stage_changes::{deploy, promote, put_api, put_canary, put_stage, show_flush};
 use book_opening::Ready;
 use book_rules::{Command, Reply};
 use gw_base::Memory;
@@ -76,6 +76,7 @@ pub fn prepare(
         ),
         Command::JoinKey { plan, key } => join_key(tables, ready, alloc, t, plan, key),
         Command::Grant { plan, key, amount } => grant(tables, alloc, t, plan, key, *amount),
+        Command::Flush { api, stage } => Ok(Prepared::Says(show_flush(tables, api, stage))),
         Command::Usage { plan, key } => Ok(Prepared::Says(show_usage(tables, t, plan, key))),
         Command::Shutdown => Ok(Prepared::Says(Reply::Done)),
     }

@@ -1,8 +1,8 @@
 // The commands on APIs and stages: what each refuses, in order, and the change that it makes ready.
 ghost use Rattle.std.specs.Prelude.{◌≡◌, true, false, Some, OnErr, IfOk};
 ghost use Rattle.std.specs.Option.{option_copied};
-ghost use Rattle.book_rules.specs.Outcomes.{first_refusal};
-ghost use Rattle.book_rules.specs.StageCommands.{deployed as deployed_of, deployment_by, promote as promote_of, promoted, put_api as put_api_of, put_canary as put_canary_of, put_canary_tests, put_stage as put_stage_of, put_stage_tests, stage_of, with_canary as with_canary_of};
+ghost use Rattle.book_rules.specs.Outcomes.{first_refusal, says};
+ghost use Rattle.book_rules.specs.StageCommands.{deployed as deployed_of, deployment_by, flush as flush_of, promote as promote_of, promoted, put_api as put_api_of, put_canary as put_canary_of, put_canary_tests, put_stage as put_stage_of, put_stage_tests, stage_of, with_canary as with_canary_of};
 ghost use Rattle.book_rules.specs.Machine.{takes_memory};
 ghost use Rattle.book_rules.specs.Stored.{form_of as form_of_definition};
 ghost use Rattle.keeper_core.specs.Lists.{api_row, stage_row};
@@ -365,4 +365,14 @@ pub fn promote(
         held: Held::Stands(stands),
         reply: Reply::Done,
     }))
+}
+
+/// Flush: whether the stage stands.
+pub fn show_flush(tables: &Tables, api: &Text, stage: &Text) -> Reply
+    ensures { says result ≡ flush_of (stage_row tables.now.lists api.now stage.now) }
+{
+    match tables.stage(api.as_str(), stage.as_str()) {
+        Some(_) => Reply::Done,
+        None => Reply::Refused(Refusal::NoStage),
+    }
 }

@@ -2,6 +2,7 @@
 ghost use Rattle.std.specs.Prelude.{◌≡◌, ◌≤◌, [], IfOk, IfErr};
 ghost use Rattle.std.specs.Vec.{vec_capacity};
 ghost use Rattle.book_rules.specs.Machine.{latest_of as latest_of_rows, opened};
+ghost use Rattle.policy_memory.specs.Kept.{Remembers};
 ghost use Rattle.book_core.specs.Standing.{standing};
 ghost use Rattle.book_core.specs.Starts.{HasStarted, StartFails, FailsAt, is_failed_start, fault_of as fault_of_load};
 
@@ -12,6 +13,7 @@ use book_opening::{OpenFault, Ready, open};
 use book_rules::{Entry, Limits};
 use gw_base::Memory;
 use keeper_core::{JoinRow, Keeper, LoadFault, Table, Tables};
+use policy_memory::PolicyMemory;
 use std::alloc::Global;
 use std::snapshot::Snapshot;
 
@@ -103,7 +105,8 @@ fn stand(
     ready: Ready,
     limits: Limits,
 ) -> Result<(Current, Vec<Entry>), Memory>
-    ensures stands { IfOk result (λ r. standing r.0 ≡ opened opening.now.lists) }
+    ensures stands { IfOk result (λ r. standing [] r.0 ≡ opened opening.now.lists) }
+    ensures remembers { IfOk result (λ r. Remembers [] 0 r.0.policies) }
     ensures ready { IfOk result (λ r. r.0.ready ≡ ready) }
     ensures empty { IfOk result (λ r. r.1.items ≡ []) }
     ensures room { IfOk result (λ r. limits.entries ≤ vec_capacity r.1) }
@@ -113,6 +116,7 @@ fn stand(
         ready,
         latest: latest_of(opening.joins()),
         closing: false,
+        policies: PolicyMemory::start(alloc)?,
     };
     let history = Vec::with_capacity(alloc, limits.entries as usize)?;
     Ok((current, history))

@@ -35,12 +35,12 @@ use Rattle.book_rules.specs.Limits.{most_deployments, most_per_second}
 use Rattle.book_rules.specs.Machine.{State, opened, put_kept, row_of, time_at, time_of}
 use Rattle.book_rules.specs.Outcomes.{Outcome, first_refusal, says, unless, writes}
 use Rattle.book_rules.specs.PlanCommands.{burst_in, granted, grant_by, is_throttle, join_anew, join_by, join_tests, key_with, kind_of_quota, limit_in, offset_in, plan_of, put_key_tests, put_plan_tests, rate_in, unused, usage_by, usage_shown, used_of}
-use Rattle.book_rules.specs.StageCommands.{canary_for, deployed, deployment_by, next_deployment, promote, promote_tests, put_api_tests, put_canary_tests, put_stage_tests}
+use Rattle.book_rules.specs.StageCommands.{canary_for, deployed, deployment_by, flush, next_deployment, promote, promote_tests, put_api_tests, put_canary_tests, put_stage_tests}
 use Rattle.book_rules.specs.declared.events.Command.{Command}
-use Rattle.book_rules.specs.declared.events.Command.TheVariants.{PutApi, Deploy, PutStage, PutCanary, PromoteCanary, PutKey, PutPlan, JoinKey, Grant, Usage, Shutdown}
+use Rattle.book_rules.specs.declared.events.Command.TheVariants.{PutApi, Deploy, PutStage, PutCanary, PromoteCanary, PutKey, PutPlan, JoinKey, Grant, Flush, Usage, Shutdown}
 use Rattle.book_rules.specs.declared.events.Entry.{Entry}
 use Rattle.book_rules.specs.declared.events.Event.{Event}
-use Rattle.book_rules.specs.declared.events.Event.TheVariants.{Enter, Admit, Admin, Leave}
+use Rattle.book_rules.specs.declared.events.Event.TheVariants.{Enter, Recall, Learn, Admit, Admin, Leave}
 use Rattle.book_rules.specs.declared.replies.Refusal.{Refusal}
 use Rattle.book_rules.specs.declared.replies.Refusal.TheVariants.{Full}
 use Rattle.book_rules.specs.declared.replies.Reply.TheVariants.{Deployed, Done, InvalidKey, Refused}
@@ -209,6 +209,10 @@ canary_aside (Some row) number share vars = refl
 promoted_aside : (found : Option StageRow) → IsAside (promote found)
 promoted_aside None = tt
 promoted_aside (Some row) = unless_aside (first_refusal (promote_tests row)) _ refl
+
+flush_aside : (found : Option StageRow) → IsAside (flush found)
+flush_aside None = tt
+flush_aside (Some row) = tt
 
 used_aside : (period : Option Period) (standing : Allowance) → IsAside (used_of period standing)
 used_aside None standing = tt
@@ -447,6 +451,7 @@ command_step lists t kept plan key h (PutPlan p th qu stages) =
     plan_step lists t kept plan key p th qu stages h (first_refusal (put_plan_tests lists p th qu stages)) refl (bytes_eq p plan) refl
 command_step lists t kept plan key h (JoinKey p k) = joins_step lists t kept plan key p k (plan_row lists p) (key_row lists k) refl
 command_step lists t kept plan key h (Grant p k amount) = grant_step lists t kept plan key p k amount (join_row lists p k) (plan_row lists p) refl refl
+command_step lists t kept plan key h (Flush api stage) = aside lists t (commanded lists t (Flush api stage)) kept plan key (flush_aside (stage_row lists api stage))
 command_step lists t kept plan key h (Usage p k) = aside lists t (commanded lists t (Usage p k)) kept plan key (usage_aside (join_row lists p k) (plan_row lists p) t)
 command_step lists t kept plan key h Shutdown = aside lists t (commanded lists t Shutdown) kept plan key tt
 
@@ -454,6 +459,8 @@ command_step lists t kept plan key h Shutdown = aside lists t (commanded lists t
 event_step : (s : State) (event : Event) (kept : Bool) (plan key : List ℕ) → HavePlans s.lists
     → account_in (put_kept (row_of s event) kept s.lists) plan key ≡ moved (begun_by s event kept plan key) (time_at s event) kept (deed_of s event plan key) (account_in s.lists plan key)
 event_step s (Enter moment word api stage) kept plan key h = still (time_of s moment) kept None refl (account_in s.lists plan key)
+event_step s (Recall moment name) kept plan key h = still (time_of s moment) kept None refl (account_in s.lists plan key)
+event_step s (Learn moment name policy ttl) kept plan key h = still (time_of s moment) kept None refl (account_in s.lists plan key)
 event_step s (Admit moment api stage value) kept plan key h = asks_step s.lists (time_of s moment) kept plan key (api, stage) (key_with s.lists value)
 event_step s (Admin moment command) kept plan key h = command_step s.lists (time_of s moment) kept plan key h command
 event_step s (Leave status cause) kept plan key h = still s.latest kept None refl (account_in s.lists plan key)

@@ -25,10 +25,10 @@ use Rattle.book_rules.specs.Limits.{most_joins}
 use Rattle.book_rules.specs.Machine.{State, last_moment, latest_of, opened, time_at, time_of}
 use Rattle.book_rules.specs.PlanCommands.{join_key}
 use Rattle.book_rules.specs.declared.events.Command.{Command}
-use Rattle.book_rules.specs.declared.events.Command.TheVariants.{PutApi, Deploy, PutStage, PutCanary, PromoteCanary, PutKey, PutPlan, JoinKey, Grant, Usage, Shutdown}
+use Rattle.book_rules.specs.declared.events.Command.TheVariants.{PutApi, Deploy, PutStage, PutCanary, PromoteCanary, PutKey, PutPlan, JoinKey, Grant, Flush, Usage, Shutdown}
 use Rattle.book_rules.specs.declared.events.Entry.{Entry}
 use Rattle.book_rules.specs.declared.events.Event.{Event}
-use Rattle.book_rules.specs.declared.events.Event.TheVariants.{Enter, Admit, Admin, Leave}
+use Rattle.book_rules.specs.declared.events.Event.TheVariants.{Enter, Recall, Learn, Admit, Admin, Leave}
 use Rattle.book_ledgers.specs.Ledgers.{Ledger, account_in, account_of, begins, begun_by, deed_of, joined_account, joined_by, ledger_after, ledger_by, with_deed}
 use Rattle.book_ledgers.specs.Laws.{IsLedger, LatestIsEarly, LedgersAreInOrder}
 use Rattle.book_ledgers.proofs.Planned.{joins_taken, named, taken_found}
@@ -162,11 +162,14 @@ command_opens lists t (PutPlan p throttle quota stages) plan key = tt
 command_opens lists t (JoinKey p k) plan key =
     if_opens (bytes_eq p plan && bytes_eq k key) t (joined_account lists t p k) (accounts_open (is_some (join_key lists t p k).row) t (plan_row lists p))
 command_opens lists t (Grant p k amount) plan key = tt
+command_opens lists t (Flush api stage) plan key = tt
 command_opens lists t (Usage p k) plan key = tt
 command_opens lists t Shutdown plan key = tt
 
 event_opens : (s : State) (event : Event) (kept : Bool) (plan key : List ℕ) → IfSome (begun_by s event kept plan key) (λ a. OpensBy a (time_at s event))
 event_opens s (Enter moment word api stage) kept plan key = tt
+event_opens s (Recall moment name) kept plan key = tt
+event_opens s (Learn moment name policy ttl) kept plan key = tt
 event_opens s (Admit moment api stage value) kept plan key = tt
 event_opens s (Admin moment command) kept plan key = if_opens kept (time_of s moment) (joined_by s.lists (time_of s moment) command plan key) (command_opens s.lists (time_of s moment) command plan key)
 event_opens s (Leave status cause) kept plan key = tt
@@ -174,6 +177,8 @@ event_opens s (Leave status cause) kept plan key = tt
 -- TIME never falls
 time_on : (s : State) (event : Event) → s.latest ≤ time_at s event
 time_on s (Enter moment word api stage) = omega arith
+time_on s (Recall moment name) = omega arith
+time_on s (Learn moment name policy ttl) = omega arith
 time_on s (Admit moment api stage value) = omega arith
 time_on s (Admin moment command) = omega arith
 time_on s (Leave status cause) = omega arith
@@ -230,6 +235,8 @@ time_within s moment h = omega (arith, h)
 
 event_within : (s : State) (event : Event) → s.latest ≤ 4102444799999 → time_at s event ≤ 4102444799999
 event_within s (Enter moment word api stage) h = time_within s moment h
+event_within s (Recall moment name) h = time_within s moment h
+event_within s (Learn moment name policy ttl) h = time_within s moment h
 event_within s (Admit moment api stage value) h = time_within s moment h
 event_within s (Admin moment command) h = time_within s moment h
 event_within s (Leave status cause) h = h

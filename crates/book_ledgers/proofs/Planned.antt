@@ -34,12 +34,12 @@ use Rattle.book_rules.specs.Limits.{most_deployments, most_joins}
 use Rattle.book_rules.specs.Machine.{State, opened, put_kept, row_of, time_of}
 use Rattle.book_rules.specs.Outcomes.{Outcome, first_refusal, says, unless, writes}
 use Rattle.book_rules.specs.PlanCommands.{granted, grant_by, join_anew, join_by, join_tests, key_with, put_key_tests, put_plan_tests, unused, usage_by, usage_shown, used_of}
-use Rattle.book_rules.specs.StageCommands.{canary_for, deployed, deployment_by, next_deployment, promote, promote_tests, put_api_tests, put_canary_tests, put_stage_tests}
+use Rattle.book_rules.specs.StageCommands.{canary_for, deployed, deployment_by, flush, next_deployment, promote, promote_tests, put_api_tests, put_canary_tests, put_stage_tests}
 use Rattle.book_rules.specs.declared.events.Command.{Command}
-use Rattle.book_rules.specs.declared.events.Command.TheVariants.{PutApi, Deploy, PutStage, PutCanary, PromoteCanary, PutKey, PutPlan, JoinKey, Grant, Usage, Shutdown}
+use Rattle.book_rules.specs.declared.events.Command.TheVariants.{PutApi, Deploy, PutStage, PutCanary, PromoteCanary, PutKey, PutPlan, JoinKey, Grant, Flush, Usage, Shutdown}
 use Rattle.book_rules.specs.declared.events.Entry.{Entry}
 use Rattle.book_rules.specs.declared.events.Event.{Event}
-use Rattle.book_rules.specs.declared.events.Event.TheVariants.{Enter, Admit, Admin, Leave}
+use Rattle.book_rules.specs.declared.events.Event.TheVariants.{Enter, Recall, Learn, Admit, Admin, Leave}
 use Rattle.book_rules.specs.declared.replies.Refusal.{Refusal}
 use Rattle.book_rules.specs.declared.replies.Refusal.TheVariants.{Full}
 use Rattle.book_rules.specs.declared.replies.Reply.TheVariants.{Deployed, Done, InvalidKey, Refused}
@@ -138,6 +138,10 @@ promoted_planned : (lists : Lists) (found : Option StageRow) → RowPlanned list
 promoted_planned lists None = tt
 promoted_planned lists (Some row) = unless_planned lists (first_refusal (promote_tests row)) _ tt
 
+flush_planned : (lists : Lists) (found : Option StageRow) → RowPlanned lists (flush found)
+flush_planned lists None = tt
+flush_planned lists (Some row) = tt
+
 granted_planned : (lists : Lists) (row : JoinRow) (made : Result Tally GrantRefusal) → is_some (plan_row lists row.plan) ≡ true → RowPlanned lists (granted row made)
 granted_planned lists row (Ok tally) h = h
 granted_planned lists row (Err refusal) h = tt
@@ -183,6 +187,7 @@ command_planned lists t (PutKey key value enabled) = unless_planned lists (first
 command_planned lists t (PutPlan plan throttle quota stages) = unless_planned lists (first_refusal (put_plan_tests lists plan throttle quota stages)) _ tt
 command_planned lists t (JoinKey plan key) = join_planned lists t plan key (plan_row lists plan) (key_row lists key) refl
 command_planned lists t (Grant plan key amount) = grant_planned lists t plan key amount (join_row lists plan key) (plan_row lists plan) refl refl
+command_planned lists t (Flush api stage) = flush_planned lists (stage_row lists api stage)
 command_planned lists t (Usage plan key) = usage_planned lists t (join_row lists plan key) (plan_row lists plan)
 command_planned lists t Shutdown = tt
 
@@ -216,6 +221,8 @@ kept_planned lists (Some row) false new h = h
 
 event_planned : (s : State) (event : Event) (kept : Bool) → HavePlans s.lists → HavePlans (put_kept (row_of s event) kept s.lists)
 event_planned s (Enter moment word api stage) kept h = h
+event_planned s (Recall moment name) kept h = h
+event_planned s (Learn moment name policy ttl) kept h = h
 event_planned s (Admit moment api stage value) kept h =
     kept_planned s.lists (row_of s (Admit moment api stage value)) kept (admission_planned s.lists (time_of s moment) (api, stage) (key_with s.lists value)) h
 event_planned s (Admin moment command) kept h = kept_planned s.lists (row_of s (Admin moment command)) kept (command_planned s.lists (time_of s moment) command) h

@@ -9,7 +9,9 @@ use Rattle.usage_plans.specs.declared.tally.Admission.{Admission}
 use Rattle.usage_plans.specs.declared.tally.Admission.TheVariants as admission
 use Rattle.usage_plans.specs.declared.tally.GrantRefusal.{GrantRefusal}
 use Rattle.usage_plans.specs.declared.tally.Tally.{Tally}
-use Rattle.keeper_core.specs.Lists.{Lists, key_row, plan_row, join_row}
+use Rattle.keeper_core.specs.Lists.{Lists, key_row, plan_row, join_row, stage_row}
+use Rattle.keeper_core.specs.declared.rows.StageRow.{StageRow}
+use Rattle.book_rules.specs.StageCommands.{flush}
 use Rattle.keeper_core.specs.declared.rows.Row.{Row}
 use Rattle.keeper_core.specs.declared.rows.Row.TheVariants.{Meta, Api, Deployment, Stage, Key, Plan, Join}
 use Rattle.keeper_core.specs.declared.rows.KeyRow.{KeyRow}
@@ -20,7 +22,7 @@ use Rattle.book_rules.specs.Commands.{commanded}
 use Rattle.book_rules.specs.Outcomes.{Outcome, says, unless, writes, first_refusal}
 use Rattle.book_rules.specs.PlanCommands.{key_with, put_key_tests, put_plan_tests, join_tests, join_by, join_anew, granted, grant_by, usage_by, usage_shown, used_of}
 use Rattle.book_rules.specs.declared.events.Command.{Command}
-use Rattle.book_rules.specs.declared.events.Command.TheVariants.{PutApi, Deploy, PutStage, PutCanary, PromoteCanary, PutKey, PutPlan, JoinKey, Grant, Usage, Shutdown}
+use Rattle.book_rules.specs.declared.events.Command.TheVariants.{PutApi, Deploy, PutStage, PutCanary, PromoteCanary, PutKey, PutPlan, JoinKey, Grant, Flush, Usage, Shutdown}
 use Rattle.book_rules.specs.declared.replies.Refusal.{Refusal}
 use Rattle.book_rules.specs.declared.replies.Reply.TheVariants.{InvalidKey}
 
@@ -36,7 +38,7 @@ is_of_plans (Join row) = true
 abbrev pub IsOfPlans : Option Row → Type 0
 IsOfPlans row = IfSome row (λ r. is_of_plans r ≡ true)
 
--- a command on keys, plans or joins
+-- a command on keys, plans, joins or remembered policies: it leaves the others
 abbrev pub is_on_plans : Command → Bool
 is_on_plans (PutApi api definition) = false
 is_on_plans (Deploy api) = false
@@ -47,6 +49,7 @@ is_on_plans (PutKey key value enabled) = true
 is_on_plans (PutPlan plan throttle quota stages) = true
 is_on_plans (JoinKey plan key) = true
 is_on_plans (Grant plan key amount) = true
+is_on_plans (Flush api stage) = true
 is_on_plans (Usage plan key) = true
 is_on_plans Shutdown = true
 
@@ -85,6 +88,10 @@ usage_plans None plan t = tt
 usage_plans (Some row) None t = tt
 usage_plans (Some row) (Some plan) t = shown_plans (allowance_at (tally_in row).allowance (terms_in plan).quota t)
 
+flush_plans : (found : Option StageRow) → IsOfPlans (flush found).row
+flush_plans None = tt
+flush_plans (Some row) = tt
+
 pub commanded_plans : (lists : Lists) (t : ℕ) (command : Command) → is_on_plans command ≡ true → IsOfPlans (commanded lists t command).row
 commanded_plans lists t (PutApi api definition) h = absurd cc
 commanded_plans lists t (Deploy api) h = absurd cc
@@ -95,6 +102,7 @@ commanded_plans lists t (PutKey key value enabled) h = unless_plans (first_refus
 commanded_plans lists t (PutPlan plan throttle quota stages) h = unless_plans (first_refusal (put_plan_tests lists plan throttle quota stages)) _ refl
 commanded_plans lists t (JoinKey plan key) h = join_plans lists t plan key (plan_row lists plan) (key_row lists key)
 commanded_plans lists t (Grant plan key amount) h = grant_plans (join_row lists plan key) (plan_row lists plan) amount t
+commanded_plans lists t (Flush api stage) h = flush_plans (stage_row lists api stage)
 commanded_plans lists t (Usage plan key) h = usage_plans (join_row lists plan key) (plan_row lists plan) t
 commanded_plans lists t Shutdown h = tt
 

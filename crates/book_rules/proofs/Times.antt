@@ -24,7 +24,7 @@ use Rattle.book_rules.specs.Commands.{commanded}
 use Rattle.book_rules.specs.Limits.{most_deployments, most_joins}
 use Rattle.book_rules.specs.Outcomes.{Outcome, says, unless, writes, first_refusal}
 use Rattle.book_rules.specs.PlanCommands.{put_key_tests, put_plan_tests, join_tests, join_by, join_anew, granted, grant_by, usage_by, usage_shown, used_of, key_with}
-use Rattle.book_rules.specs.StageCommands.{deployed, deployment_by, put_api_tests, put_stage_tests, put_canary_tests, canary_for, promote, promote_tests, next_deployment}
+use Rattle.book_rules.specs.StageCommands.{deployed, deployment_by, put_api_tests, put_stage_tests, put_canary_tests, canary_for, promote, promote_tests, next_deployment, flush}
 use Rattle.std.proofs.lemmas.Bool.{and_parts}
 use Rattle.keeper_core.specs.Lists.{key_row, plan_row}
 use Rattle.keeper_core.specs.declared.rows.JoinRow.{JoinRow}
@@ -33,14 +33,16 @@ use Rattle.keeper_core.specs.declared.table.Table.TheVariants as table
 use Rattle.book_rules.specs.Good.{bad_row, first_bad, first_refused, refused_by, takes_meta, takes_api, takes_deployment, takes_stage, takes_key, takes_plan, takes_join, takes_of_plan, takes_period, joined_already}
 use Rattle.book_rules.specs.History.{reply, state_of, state_after, is_changing}
 use Rattle.call_facts.specs.declared.vars.Vars.{Vars}
-use Rattle.book_rules.specs.Machine.{State, opened, latest_of, time_of, time_at, told, is_taken, viewed, entered, entered_as, outcome_of, last_moment}
+use Rattle.policy_core.specs.declared.policy.Policy.{Policy}
+use Rattle.policy_memory.specs.Remembered.{remembered}
+use Rattle.book_rules.specs.Machine.{State, opened, latest_of, time_of, time_at, told, is_taken, viewed, entered, entered_as, outcome_of, recalled, last_moment}
 use Rattle.book_rules.specs.Stored.{merged_in, variables_in}
 use Rattle.book_rules.specs.Times.{IsInTime}
 use Rattle.book_rules.specs.declared.events.Command.{Command}
-use Rattle.book_rules.specs.declared.events.Command.TheVariants.{PutApi, Deploy, PutStage, PutCanary, PromoteCanary, PutKey, PutPlan, JoinKey, Grant, Usage, Shutdown}
+use Rattle.book_rules.specs.declared.events.Command.TheVariants.{PutApi, Deploy, PutStage, PutCanary, PromoteCanary, PutKey, PutPlan, JoinKey, Grant, Flush, Usage, Shutdown}
 use Rattle.book_rules.specs.declared.events.Entry.{Entry}
 use Rattle.book_rules.specs.declared.events.Event.{Event}
-use Rattle.book_rules.specs.declared.events.Event.TheVariants.{Enter, Admit, Admin, Leave}
+use Rattle.book_rules.specs.declared.events.Event.TheVariants.{Enter, Recall, Learn, Admit, Admin, Leave}
 use Rattle.book_rules.specs.declared.replies.Refusal.{Refusal}
 use Rattle.book_rules.specs.declared.replies.Refusal.TheVariants.{Full}
 use Rattle.book_rules.specs.declared.replies.Reply.{Reply}
@@ -53,6 +55,8 @@ time_within s moment h = omega (arith, h)
 
 event_within : (s : State) (event : Event) → s.latest ≤ 4102444799999 → time_at s event ≤ 4102444799999
 event_within s (Enter moment word api stage) h = time_within s moment h
+event_within s (Recall moment name) h = time_within s moment h
+event_within s (Learn moment name policy ttl) h = time_within s moment h
 event_within s (Admit moment api stage value) h = time_within s moment h
 event_within s (Admin moment command) h = time_within s moment h
 event_within s (Leave status cause) h = h
@@ -131,6 +135,10 @@ usage_in_time None plan t = tt
 usage_in_time (Some row) None t = tt
 usage_in_time (Some row) (Some plan) t = shown_in_time (allowance_at (tally_in row).allowance (terms_in plan).quota t)
 
+flush_in_time : (found : Option StageRow) → IsInTime (flush found).reply
+flush_in_time None = tt
+flush_in_time (Some row) = tt
+
 commanded_in_time : (lists : Lists) (t : ℕ) (command : Command) → IsInTime (commanded lists t command).reply
 commanded_in_time lists t (PutApi api definition) = unless_in_time (first_refusal (put_api_tests lists api)) _ tt
 commanded_in_time lists t (Deploy api) = deployed_in_time (api_row lists api) (deployed lists api)
@@ -142,6 +150,7 @@ commanded_in_time lists t (PutKey key value enabled) = unless_in_time (first_ref
 commanded_in_time lists t (PutPlan plan throttle quota stages) = unless_in_time (first_refusal (put_plan_tests lists plan throttle quota stages)) _ tt
 commanded_in_time lists t (JoinKey plan key) = join_by_in_time lists t plan key (plan_row lists plan) (key_row lists key)
 commanded_in_time lists t (Grant plan key amount) = grant_in_time (join_row lists plan key) (plan_row lists plan) amount t
+commanded_in_time lists t (Flush api stage) = flush_in_time (stage_row lists api stage)
 commanded_in_time lists t (Usage plan key) = usage_in_time (join_row lists plan key) (plan_row lists plan) t
 commanded_in_time lists t Shutdown = tt
 
@@ -168,8 +177,14 @@ admitted_in_time : (lists : Lists) (t : ℕ) (stage : List ℕ × List ℕ) (fou
 admitted_in_time lists t stage None = tt
 admitted_in_time lists t stage (Some row) = enabled_in_time lists t row.key (plan_for lists stage row.key) (row.enabled == 1)
 
+recalled_in_time : (found : Option Policy) → IsInTime (recalled found)
+recalled_in_time None = tt
+recalled_in_time (Some policy) = tt
+
 at_in_time : (s : State) (place : ℕ) (event : Event) → s.latest ≤ 4102444799999 → IsInTime (outcome_of s place event).reply
 at_in_time s place (Enter moment word api stage) h = entered_in_time s.lists place (time_of s moment) word (stage_row s.lists api stage) (time_within s moment h)
+at_in_time s place (Recall moment name) h = recalled_in_time (remembered s.happened name (time_of s moment))
+at_in_time s place (Learn moment name policy ttl) h = tt
 at_in_time s place (Admit moment api stage value) h = admitted_in_time s.lists (time_of s moment) (api, stage) (key_with s.lists value)
 at_in_time s place (Admin moment command) h = commanded_in_time s.lists (time_of s moment) command
 at_in_time s place (Leave status cause) h = tt

@@ -26,9 +26,9 @@ use Rattle.book_rules.specs.Machine.{State, opened, time_of, is_taken, viewed, e
 use Rattle.book_rules.specs.History.{state_of, state_after}
 use Rattle.book_rules.specs.Views.{Staged, staged_of, staged_with, with_canary_of, merged_of, promoted_of, no_variables, command_of, kept_command, definition_after, definition_by, stage_after, stage_by, deployment_after, deployment_by, viewed_by, is_taken_by, entered_by_as, entered_by, ViewsAreOfTheLastCommands}
 use Rattle.book_rules.specs.declared.events.Command.{Command}
-use Rattle.book_rules.specs.declared.events.Command.TheVariants.{PutApi, Deploy, PutStage, PutCanary, PromoteCanary, PutKey, PutPlan, JoinKey, Grant, Usage, Shutdown}
+use Rattle.book_rules.specs.declared.events.Command.TheVariants.{PutApi, Deploy, PutStage, PutCanary, PromoteCanary, PutKey, PutPlan, JoinKey, Grant, Flush, Usage, Shutdown}
 use Rattle.book_rules.specs.declared.events.Event.{Event}
-use Rattle.book_rules.specs.declared.events.Event.TheVariants.{Enter, Admit, Admin, Leave}
+use Rattle.book_rules.specs.declared.events.Event.TheVariants.{Enter, Recall, Learn, Admit, Admin, Leave}
 use Rattle.book_rules.specs.declared.events.Entry.{Entry}
 use Rattle.book_rules.specs.declared.replies.Refusal.{Refusal}
 use Rattle.book_rules.specs.declared.replies.Refusal.TheVariants.{BadName, NoApi, NoDeployment, NoStage, BadShare, Full}
@@ -386,6 +386,9 @@ definition_command lists t (JoinKey plan key) kept api =
 definition_command lists t (Grant plan key amount) kept api =
     by_neutral (λ l. option_map definition_of (api_row l api)) (λ c. definition_after c api) (λ x. refl) lists (Some (Grant plan key amount)) (commanded lists t (Grant plan key amount)).row kept
     (beside_plans (λ l. option_map definition_of (api_row l api)) (definitions_beside api) lists (commanded lists t (Grant plan key amount)).row (commanded_plans lists t (Grant plan key amount) refl)) (λ x. refl)
+definition_command lists t (Flush at name) kept api =
+    by_neutral (λ l. option_map definition_of (api_row l api)) (λ c. definition_after c api) (λ x. refl) lists (Some (Flush at name)) (commanded lists t (Flush at name)).row kept
+    (beside_plans (λ l. option_map definition_of (api_row l api)) (definitions_beside api) lists (commanded lists t (Flush at name)).row (commanded_plans lists t (Flush at name) refl)) (λ x. refl)
 definition_command lists t (Usage plan key) kept api =
     by_neutral (λ l. option_map definition_of (api_row l api)) (λ c. definition_after c api) (λ x. refl) lists (Some (Usage plan key)) (commanded lists t (Usage plan key)).row kept
     (beside_plans (λ l. option_map definition_of (api_row l api)) (definitions_beside api) lists (commanded lists t (Usage plan key)).row (commanded_plans lists t (Usage plan key) refl)) (λ x. refl)
@@ -445,6 +448,9 @@ stage_command lists t (JoinKey plan key) kept api stage =
 stage_command lists t (Grant plan key amount) kept api stage =
     by_neutral (λ l. option_map staged_of (stage_row l api stage)) (λ c. stage_after c api stage) (λ x. refl) lists (Some (Grant plan key amount)) (commanded lists t (Grant plan key amount)).row kept
     (beside_plans (λ l. option_map staged_of (stage_row l api stage)) (stages_beside api stage) lists (commanded lists t (Grant plan key amount)).row (commanded_plans lists t (Grant plan key amount) refl)) (λ x. refl)
+stage_command lists t (Flush at name) kept api stage =
+    by_neutral (λ l. option_map staged_of (stage_row l api stage)) (λ c. stage_after c api stage) (λ x. refl) lists (Some (Flush at name)) (commanded lists t (Flush at name)).row kept
+    (beside_plans (λ l. option_map staged_of (stage_row l api stage)) (stages_beside api stage) lists (commanded lists t (Flush at name)).row (commanded_plans lists t (Flush at name) refl)) (λ x. refl)
 stage_command lists t (Usage plan key) kept api stage =
     by_neutral (λ l. option_map staged_of (stage_row l api stage)) (λ c. stage_after c api stage) (λ x. refl) lists (Some (Usage plan key)) (commanded lists t (Usage plan key)).row kept
     (beside_plans (λ l. option_map staged_of (stage_row l api stage)) (stages_beside api stage) lists (commanded lists t (Usage plan key)).row (commanded_plans lists t (Usage plan key) refl)) (λ x. refl)
@@ -517,6 +523,10 @@ deployment_command lists t (Grant plan key amount) kept api number =
     by_neutral (λ l. option_map deployed_of (deployment_row l api number)) (λ c. deployment_after c api number (deployed lists api) (option_map definition_of (api_row lists api))) (λ x. refl)
     lists (Some (Grant plan key amount)) (commanded lists t (Grant plan key amount)).row kept
     (beside_plans (λ l. option_map deployed_of (deployment_row l api number)) (deployments_beside api number) lists (commanded lists t (Grant plan key amount)).row (commanded_plans lists t (Grant plan key amount) refl)) (λ x. refl)
+deployment_command lists t (Flush at name) kept api number =
+    by_neutral (λ l. option_map deployed_of (deployment_row l api number)) (λ c. deployment_after c api number (deployed lists api) (option_map definition_of (api_row lists api))) (λ x. refl)
+    lists (Some (Flush at name)) (commanded lists t (Flush at name)).row kept
+    (beside_plans (λ l. option_map deployed_of (deployment_row l api number)) (deployments_beside api number) lists (commanded lists t (Flush at name)).row (commanded_plans lists t (Flush at name) refl)) (λ x. refl)
 deployment_command lists t (Usage plan key) kept api number =
     by_neutral (λ l. option_map deployed_of (deployment_row l api number)) (λ c. deployment_after c api number (deployed lists api) (option_map definition_of (api_row lists api))) (λ x. refl)
     lists (Some (Usage plan key)) (commanded lists t (Usage plan key)).row kept
@@ -528,6 +538,8 @@ definition_event : (state : State) (event : Event) (kept : Bool) (api : List ℕ
     → option_map definition_of (api_row (put_kept (row_of state event) kept state.lists) api)
     ≡ definition_after (cond (is_some (row_of state event) && kept) (command_of event) None) api (option_map definition_of (api_row state.lists api))
 definition_event state (Enter moment word api' stage) kept api = refl
+definition_event state (Recall moment name) kept api = refl
+definition_event state (Learn moment name policy ttl) kept api = refl
 definition_event state (Admit moment api' stage value) kept api =
     by_neutral (λ l. option_map definition_of (api_row l api)) (λ c. definition_after c api) (λ x. refl) state.lists None (row_of state (Admit moment api' stage value)) kept
     (beside_plans (λ l. option_map definition_of (api_row l api)) (definitions_beside api) state.lists (row_of state (Admit moment api' stage value))
@@ -539,6 +551,8 @@ stage_event : (state : State) (event : Event) (kept : Bool) (api stage : List �
     → option_map staged_of (stage_row (put_kept (row_of state event) kept state.lists) api stage)
     ≡ stage_after (cond (is_some (row_of state event) && kept) (command_of event) None) api stage (option_map staged_of (stage_row state.lists api stage))
 stage_event state (Enter moment word api' stage') kept api stage = refl
+stage_event state (Recall moment name) kept api stage = refl
+stage_event state (Learn moment name policy ttl) kept api stage = refl
 stage_event state (Admit moment api' stage' value) kept api stage =
     by_neutral (λ l. option_map staged_of (stage_row l api stage)) (λ c. stage_after c api stage) (λ x. refl) state.lists None (row_of state (Admit moment api' stage' value)) kept
     (beside_plans (λ l. option_map staged_of (stage_row l api stage)) (stages_beside api stage) state.lists (row_of state (Admit moment api' stage' value))
@@ -550,6 +564,8 @@ deployment_event : (state : State) (event : Event) (kept : Bool) (api : List ℕ
     → option_map deployed_of (deployment_row (put_kept (row_of state event) kept state.lists) api number)
     ≡ deployment_after (cond (is_some (row_of state event) && kept) (command_of event) None) api number (deployed state.lists api) (option_map definition_of (api_row state.lists api)) (option_map deployed_of (deployment_row state.lists api number))
 deployment_event state (Enter moment word api' stage) kept api number = refl
+deployment_event state (Recall moment name) kept api number = refl
+deployment_event state (Learn moment name policy ttl) kept api number = refl
 deployment_event state (Admit moment api' stage value) kept api number =
     by_neutral (λ l. option_map deployed_of (deployment_row l api number)) (λ c. deployment_after c api number (deployed state.lists api) (option_map definition_of (api_row state.lists api))) (λ x. refl)
     state.lists None (row_of state (Admit moment api' stage value)) kept

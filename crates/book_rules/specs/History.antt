@@ -2,12 +2,15 @@
 use Rattle.std.specs.Prelude.{◌≡◌, ℕ, ◌+◌, ◌-◌, ◌^◌, ◌≤◌, min, nat_lt, nat_le, Bool, true, false, not, ◌&&◌, ◌||◌, List, [], ◌∷◌, length, reverse, sum_by, Option, Some, None, is_some, if◌then◌else◌}
 use Rattle.keeper_core.specs.Lists.{Lists}
 use Rattle.keeper_core.specs.Keeping.{KeeperFacts, Planned, fails_now, one_more}
+use Rattle.policy_core.specs.declared.policy.Policy.{Policy}
+use Rattle.policy_core.specs.declared.policy.Statement.{Statement}
+use Rattle.policy_memory.specs.declared.names.PolicyName.{PolicyName}
 use Rattle.book_rules.specs.Machine.{State, opened, outcome_of, row_of, told, after}
 use Rattle.book_rules.specs.declared.events.Limits.{Limits}
 use Rattle.book_rules.specs.declared.events.Command.{Command}
-use Rattle.book_rules.specs.declared.events.Command.TheVariants.{PutApi, Deploy, PutStage, PutCanary, PromoteCanary, PutKey, PutPlan, JoinKey, Grant, Usage, Shutdown}
+use Rattle.book_rules.specs.declared.events.Command.TheVariants.{PutApi, Deploy, PutStage, PutCanary, PromoteCanary, PutKey, PutPlan, JoinKey, Grant, Flush, Usage, Shutdown}
 use Rattle.book_rules.specs.declared.events.Event.{Event}
-use Rattle.book_rules.specs.declared.events.Event.TheVariants.{Enter, Admit, Admin, Leave}
+use Rattle.book_rules.specs.declared.events.Event.TheVariants.{Enter, Recall, Learn, Admit, Admin, Leave}
 use Rattle.book_rules.specs.declared.events.Entry.{Entry}
 use Rattle.book_rules.specs.Times.{IsInTime}
 use Rattle.book_rules.specs.declared.replies.Reply.{Reply}
@@ -27,11 +30,26 @@ command_size (PutKey key value enabled) = length key + length value
 command_size (PutPlan plan throttle quota stages) = length plan + pairs_size stages
 command_size (JoinKey plan key) = length plan + length key
 command_size (Grant plan key amount) = length plan + length key
+command_size (Flush api stage) = length api + length stage
 command_size (Usage plan key) = length plan + length key
 command_size Shutdown = 0
 
+abbrev pub texts_size : List (List ℕ) → ℕ
+texts_size texts = sum_by (λ (text : List ℕ). length text) texts
+
+abbrev pub statement_size : Statement → ℕ
+statement_size s = texts_size s.actions + texts_size s.resources
+
+abbrev pub policy_size : Policy → ℕ
+policy_size policy = length policy.principal + (sum_by statement_size policy.statements + pairs_size policy.context)
+
+abbrev pub name_size : PolicyName → ℕ
+name_size name = length name.api + length name.stage + (length name.authorizer + length name.token)
+
 abbrev pub size : Event → ℕ
 size (Enter moment word api stage) = length api + length stage
+size (Recall moment name) = name_size name
+size (Learn moment name policy ttl) = name_size name + policy_size policy
 size (Admit moment api stage value) = length api + length stage + length value
 size (Admin moment command) = command_size command
 size (Leave status cause) = 0
@@ -88,11 +106,14 @@ rewrites_by (PutKey key value enabled) = false
 rewrites_by (PutPlan plan throttle quota stages) = false
 rewrites_by (JoinKey plan key) = false
 rewrites_by (Grant plan key amount) = true
+rewrites_by (Flush api stage) = false
 rewrites_by (Usage plan key) = false
 rewrites_by Shutdown = false
 
 abbrev pub rewrites : Event → Bool
 rewrites (Enter moment word api stage) = false
+rewrites (Recall moment name) = false
+rewrites (Learn moment name policy ttl) = false
 rewrites (Admit moment api stage value) = true
 rewrites (Admin moment command) = rewrites_by command
 rewrites (Leave status cause) = false

@@ -97,3 +97,8 @@ promote_tests row = (row.canary == 0, NoCanary) ∷ (nat_lt most_variables (leng
 abbrev pub promote : Option StageRow → Outcome
 promote None = says (Refused NoStage)
 promote (Some row) = unless_refused (promote_tests row) (writes (Stage (promoted row)) Done)
+
+-- the policies of a stage that stands are forgotten, and no row is written
+abbrev pub flush : Option StageRow → Outcome
+flush None = says (Refused NoStage)
+flush (Some row) = says Done

@@ -14,7 +14,7 @@ use Rattle.book_rules.specs.History.{state_of, state_after, reply}
 use Rattle.book_rules.specs.declared.events.Command.{Command}
 use Rattle.book_rules.specs.declared.events.Command.TheVariants.{PutApi, Deploy, PutStage, PutCanary, PromoteCanary}
 use Rattle.book_rules.specs.declared.events.Event.{Event}
-use Rattle.book_rules.specs.declared.events.Event.TheVariants.{Enter, Admit, Admin, Leave}
+use Rattle.book_rules.specs.declared.events.Event.TheVariants.{Enter, Recall, Learn, Admit, Admin, Leave}
 use Rattle.book_rules.specs.declared.events.Entry.{Entry}
 use Rattle.book_rules.specs.declared.replies.Reply.{Reply}
 use Rattle.book_rules.specs.declared.replies.Reply.TheVariants.{Entered, NoStage}
@@ -34,6 +34,8 @@ staged_of row =
 
 abbrev pub command_of : Event → Option Command
 command_of (Enter moment word api stage) = None
+command_of (Recall moment name) = None
+command_of (Learn moment name policy ttl) = None
 command_of (Admit moment api stage value) = None
 command_of (Admin moment command) = Some command
 command_of (Leave status cause) = None

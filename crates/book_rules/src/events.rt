@@ -1,6 +1,8 @@
 use api_model::Api;
 use call_facts::{Kind, Vars};
 use gw_base::{Seq, Shared, Text};
+use policy_core::Policy;
+use policy_memory::PolicyName;
 use usage_plans::{Quota, Throttle};
 
 /// The most entries of a history, and the most bytes of its events' texts.
@@ -65,6 +67,11 @@ pub enum Command {
         key: Text,
         amount: u64,
     },
+    /// Forgets the policies that are remembered at a stage.
+    Flush {
+        api: Text,
+        stage: Text,
+    },
     /// Asks what is allowed and used in the period that stands.
     Usage {
         plan: Text,
@@ -82,6 +89,18 @@ pub enum Event {
         word: u64,
         api: Text,
         stage: Text,
+    },
+    /// A request asks for the policy that is remembered under a name.
+    Recall {
+        moment: u64,
+        name: PolicyName,
+    },
+    /// A policy is learned under a name, for so many seconds.
+    Learn {
+        moment: u64,
+        name: PolicyName,
+        policy: Shared<Policy>,
+        ttl: u32,
     },
     /// A request asks to be admitted to a stage by the value of an API key.
     Admit {
@@ -150,6 +169,7 @@ impl Drop for Command {
                 key: _,
                 amount: _,
             } => {}
+            Command::Flush { api: _, stage: _ } => {}
             Command::Usage { plan: _, key: _ } => {}
             Command::Shutdown => {}
         }
@@ -164,6 +184,13 @@ impl Drop for Event {
                 word: _,
                 api: _,
                 stage: _,
+            } => {}
+            Event::Recall { moment: _, name: _ } => {}
+            Event::Learn {
+                moment: _,
+                name: _,
+                policy: _,
+                ttl: _,
             } => {}
             Event::Admit {
                 moment: _,

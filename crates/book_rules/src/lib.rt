@@ -13,6 +13,9 @@
 //! | the same, not kept | `Store`, and the tables stay; the next `Deploy` is `Deployed(3)` again, if it is kept |
 //! | `PutStage` to a deployment that isn't there | `Refused(NoDeployment)`, no row |
 //! | `Enter` at a stage | `Entered`, with the deployment to which the last kept `PutStage` pointed it |
+//! | `Learn` of a policy for 300 seconds at 0, then `Recall` of its name at 299,999 | `Learned`; `Remembered`, with the policy |
+//! | the same `Recall` at 300,000, behind 1,024 other names, or behind a `Flush` of its stage | `NotRemembered` |
+//! | `Flush` of a stage that isn't there | `Refused(NoStage)`, and nothing is forgotten |
 //! | `Shutdown` | `Done`, no row; each later `Leave` is `Left { closing: true }` |
 //!
 //! `specs/Good.antt` says which tables a book starts from: `bad_row` names the first row that is refused, by table and by key.
@@ -20,8 +23,10 @@
 //!
 //! As a law, [`laws::views_are_of_the_last_commands`]: a view is what the last commands left that were kept, whatever the tables are.
 //!
-//! Left out: no command makes a canary yet, so the canary of a row that was loaded is kept and not taken; keys, plans and joins are
-//! tested and kept.
+//! What is remembered of policies is `remembered` of `policy_memory` over what happened to them in the history (`happened_behind`): each
+//! Learn, and each Flush that was answered `Done`. No policy stands in the tables, so none outlives a session.
+//!
+//! Left out: which policy an authorizer gives, and which name it is learned under, is for the caller to say.
 #![tactic(auto)]
 
 mod events;

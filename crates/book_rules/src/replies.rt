@@ -4,6 +4,7 @@ ghost use Rattle.book_rules.specs.Printed.{kind_name as kind_name_of};
 use api_model::Api;
 use call_facts::Vars;
 use gw_base::{Name, Shared, Text};
+use policy_core::Policy;
 use std::fmt;
 use usage_plans::{Period, PeriodKind};
 
@@ -143,6 +144,12 @@ pub enum Reply {
     Entered(View),
     /// To Enter: no such stage.
     NoStage,
+    /// To Recall: the policy that is remembered.
+    Remembered(Shared<Policy>),
+    /// To Recall: none is.
+    NotRemembered,
+    /// To Learn.
+    Learned,
     /// To Admit: by this key, which joined this plan.
     Admitted { key: Name, plan: Name },
     /// To Admit: no key has this value, it is not enabled, or it joined no plan of the stage.
@@ -170,6 +177,9 @@ impl Drop for Reply {
         match self {
             Reply::Entered(_) => {}
             Reply::NoStage => {}
+            Reply::Remembered(_) => {}
+            Reply::NotRemembered => {}
+            Reply::Learned => {}
             Reply::Admitted { key: _, plan: _ } => {}
             Reply::InvalidKey => {}
             Reply::Throttled { level: _ } => {}

@@ -8,13 +8,13 @@ use Rattle.book_core.specs.declared.book.StepFault.TheVariants as step
 use Rattle.book_rules.specs.History.{Base}
 use Rattle.book_rules.specs.declared.events.Entry.{Entry}
 use Rattle.book_rules.specs.declared.events.Event.{Event}
-use Rattle.book_rules.specs.declared.events.Event.TheVariants.{Enter, Admit}
+use Rattle.book_rules.specs.declared.events.Event.TheVariants.{Enter, Recall, Learn, Admit}
 use Rattle.call_facts.specs.declared.kind.Kind.{Kind}
 use Rattle.call_facts.specs.declared.target.Target.{Target}
 use Rattle.gate_serve.specs.declared.called.Called.{Called}
 use Rattle.gate_serve.specs.declared.called.Called.TheVariants.{Answered, Full, Memory}
 use Rattle.gate_walk.specs.Acts.{Act, refused, DrawsFrom, Goes, Stand, given_to, made_by, sent_by}
-use Rattle.gate_walk.specs.Walk.{Call, asks, answers}
+use Rattle.gate_walk.specs.Walk.{Call, asks, answers, name_of}
 use Rattle.gate_walk.specs.declared.ended.Ended.{Ended}
 use Rattle.gate_walk.specs.declared.ended.Ended.TheVariants as ended
 use Rattle.gate_walk.specs.declared.ended.LaneEnd.{LaneEnd}
@@ -27,6 +27,8 @@ use Rattle.http_framing.specs.declared.fault.EdgeFault.{EdgeFault}
 use Rattle.http_framing.specs.declared.fault.EdgeFault.TheVariants as edge
 use Rattle.method_answers.specs.Calls.{Call as Routed}
 use Rattle.method_answers.specs.Keys.{key_value}
+use Rattle.method_answers.specs.declared.authorizing.Authorizing.{Authorizing}
+use Rattle.policy_core.specs.declared.policy.Policy.{Policy}
 use Rattle.turn_desk.specs.Calls.{SeatFacts, IsSameSeat, HasItsOwn}
 use Rattle.turn_desk.specs.Entries.{HasNoneFrom}
 
@@ -67,6 +69,12 @@ enter_at m target = Enter m.moment m.word target.api target.stage
 
 abbrev pub admit_at : Message → Routed → Event
 admit_at m c = Admit m.moment c.target.api c.target.stage (key_value c.request)
+
+abbrev pub recall_at : Message → Authorizing → Event
+recall_at m a = Recall m.moment (name_of a.call.target a.question)
+
+abbrev pub learn_at : Message → Authorizing → Policy → Event
+learn_at m a policy = Learn m.moment (name_of a.call.target a.question) policy a.question.ttl
 
 -- a list that is told goes on by these
 abbrev pub GoesOnBy : {A : Type 0} → Option (List A) → Option (List A) → List A → Type 0

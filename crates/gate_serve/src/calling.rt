@@ -8,7 +8,7 @@ ghost use Rattle.turn_desk.specs.Calls.{HasItsOwn};
 
 use crate::administering::administer;
 use crate::called::{Called, refusal};
-use crate::following::follow;
+use crate::consulting::pursue;
 use admin_routes::is_admin;
 use backend_core::Backend;
 use book_core::Book;
@@ -60,7 +60,7 @@ fn enter<R: Wait, K: Keeper, B: Backend, T, W, G: Gate>(
         Err(fault) => (seat, refusal(fault), false),
         Ok(reply) => {
             match plan_for(alloc, message.too_large, &reply, &message.request, target) {
-                Ok(way) => follow(rt, alloc, desk, seat, message, way, means),
+                Ok(course) => pursue(rt, alloc, desk, seat, message, course, means),
                 Err(_) => (seat, Called::Memory, false),
             }
         }

@@ -46,6 +46,7 @@ mod administering;
 mod called;
 mod calling;
 mod connection;
+mod consulting;
 mod edge;
 mod following;
 mod lane;

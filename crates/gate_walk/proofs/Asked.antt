@@ -1,5 +1,5 @@
 -- The kinds that tell of an admission stand behind an Admit, and a way has at most one.
-use Rattle.std.proofs.Common.{◌≡◌, ◌≤◌, ◌⊎◌, inl, inr, ℕ, ◌+◌, Bool, true, false, cond, List, [], ◌∷◌, ◌++◌, length, Option, Some, None, Result, Ok, Err, ap, sym, ◌∙◌, append-nil, append_assoc, subst, refl, arith}
+use Rattle.std.proofs.Common.{◌≡◌, ◌≤◌, ◌⊎◌, inl, inr, ℕ, ◌+◌, ◌==◌, Bool, true, false, cond, List, [], ◌∷◌, ◌++◌, length, Option, Some, None, Result, Ok, Err, ap, sym, ◌∙◌, append-nil, append_assoc, subst, refl, arith}
 use Rattle.std.specs.Prelude.{IfSome}
 use Rattle.std.specs.List.{filter}
 use Rattle.admin_routes.specs.Answers.{replied_made}
@@ -10,9 +10,9 @@ use Rattle.admin_routes.specs.declared.routes.Route.{Route}
 use Rattle.backend_core.specs.declared.outcome.Outcome.{Outcome}
 use Rattle.book_rules.specs.declared.events.Command.{Command}
 use Rattle.book_rules.specs.declared.events.Event.{Event}
-use Rattle.book_rules.specs.declared.events.Event.TheVariants.{Enter, Admit, Admin, Leave}
+use Rattle.book_rules.specs.declared.events.Event.TheVariants.{Enter, Recall, Learn, Admit, Admin, Leave}
 use Rattle.book_rules.specs.declared.replies.Reply.{Reply}
-use Rattle.book_rules.specs.declared.replies.Reply.TheVariants.{Entered, NoStage, Admitted, InvalidKey, Throttled, QuotaExceeded, Store, Left, Done, Deployed, Usage, Refused}
+use Rattle.book_rules.specs.declared.replies.Reply.TheVariants.{Entered, NoStage, Remembered, NotRemembered, Learned, Admitted, InvalidKey, Throttled, QuotaExceeded, Store, Left, Done, Deployed, Usage, Refused}
 use Rattle.book_rules.specs.declared.replies.View.{View}
 use Rattle.call_facts.specs.Target.{target_of}
 use Rattle.call_facts.specs.declared.kind.Kind.{Kind}
@@ -21,15 +21,19 @@ use Rattle.call_facts.specs.declared.target.Target.{Target}
 use Rattle.gate_walk.specs.Acts.{Act, took, refused, sent, Goes}
 use Rattle.gate_walk.specs.Laws.{AdmitsOnce, AsksWhereKeyed, TellsItsAdmission, WasRefusedAs, asks_admission, is_admit, is_keyed_by, is_keyed_under}
 use Rattle.gate_walk.specs.Planning.{planned_at, planned_by, planned_for, too_large_made}
-use Rattle.gate_walk.specs.Walk.{Call, asks, sends, answers, administered, admission_of, follows, leaves, performs, walk, way_to}
+use Rattle.gate_walk.specs.Walk.{Call, asks, sends, answers, administered, admission_of, consulted, follows, gives, inquires, learns, leaves, name_of, performs, policy_in, pursues, recalled, walk, way_to}
 use Rattle.gate_walk.specs.declared.message.Message.{Message}
 use Rattle.method_answers.proofs.Admitting.{asks_where_keyed as method_asks, tells_its_admission}
-use Rattle.method_answers.specs.Admitting.{TellsBy, TellsNone, TellsNoneEach, TellsOn, asks_admission as way_asks, tells_admission}
-use Rattle.method_answers.specs.Plans.{Planned, Way, admits, answered, exchanges, goes}
+use Rattle.method_answers.specs.Admitting.{TellsBy, TellsAlong, TellsNone, TellsNoneEach, TellsOn, asks_admission as way_asks, tells_admission, way_along}
+use Rattle.method_answers.specs.Plans.{Course, Planned, Way, admits, answered, consults, exchanges, free, goes}
+use Rattle.method_answers.specs.declared.authorizing.Question.{Question}
+use Rattle.authorizer_call.specs.Outcomes.{policy_of}
+use Rattle.authorizer_call.specs.declared.fault.AuthorizerFault.{AuthorizerFault}
 use Rattle.method_answers.specs.declared.keys.Admission.{Admission}
 use Rattle.method_answers.specs.declared.keys.Admission.TheVariants as admission
 use Rattle.method_flow.specs.Answers.{text_made}
 use Rattle.method_flow.specs.declared.answers.Made.{Made}
+use Rattle.policy_core.specs.declared.policy.Policy.{Policy}
 use Rattle.vtl_eval.specs.declared.stop.Rendered.{Rendered}
 use Rattle.vtl_eval.specs.declared.stop.Stop.{Stop}
 
@@ -101,18 +105,45 @@ on_way m (goes plan) acts none = on_plan m plan acts none
 on_way m (admits target value next) acts tells = λ kept reply.
     on_admission m (next (admission_of reply)) acts (Admit m.moment target.api target.stage value) kept reply (admission_of reply) refl refl (tells (admission_of reply))
 
+-- and so where an authorizer is consulted first, which asks for no admission
+on_learn : (b : Bool) (m : Message) (target : Target) (q : Question) (next : Result Policy AuthorizerFault → Way) (tells : (given : Result Policy AuthorizerFault) → TellsOn (next given)) (acts : List Act) (policy : Policy) → EachBehind Told acts (learns b m target q next policy)
+on_learn true m target q next tells acts policy = on_way m (next (Ok policy)) acts (tells (Ok policy))
+on_learn false m target q next tells acts policy = λ kept reply. on_way m (next (Ok policy)) _ (tells (Ok policy))
+
+on_given : (m : Message) (target : Target) (q : Question) (next : Result Policy AuthorizerFault → Way) (tells : (given : Result Policy AuthorizerFault) → TellsOn (next given)) (acts : List Act) (given : Result Policy AuthorizerFault) → EachBehind Told acts (gives m target q next given)
+on_given m target q next tells acts (Ok policy) = on_learn (q.ttl == 0) m target q next tells acts policy
+on_given m target q next tells acts (Err why) = on_way m (next (Err why)) acts (tells (Err why))
+
+on_inquiry : (m : Message) (target : Target) (q : Question) (next : Result Policy AuthorizerFault → Way) (tells : (given : Result Policy AuthorizerFault) → TellsOn (next given)) (acts : List Act) → EachBehind Told acts (inquires m target q next)
+on_inquiry m target q next tells acts = λ outcome. on_given m target q next tells _ (policy_of outcome)
+
+on_recall : (m : Message) (target : Target) (q : Question) (next : Result Policy AuthorizerFault → Way) (tells : (given : Result Policy AuthorizerFault) → TellsOn (next given)) (acts : List Act) (found : Option Policy) → EachBehind Told acts (recalled m target q next found)
+on_recall m target q next tells acts (Some policy) = on_way m (next (Ok policy)) acts (tells (Ok policy))
+on_recall m target q next tells acts None = on_inquiry m target q next tells acts
+
+on_consulting : (b : Bool) (m : Message) (target : Target) (q : Question) (next : Result Policy AuthorizerFault → Way) (tells : (given : Result Policy AuthorizerFault) → TellsOn (next given)) (acts : List Act) → EachBehind Told acts (consulted b m target q next)
+on_consulting true m target q next tells acts = on_inquiry m target q next tells acts
+on_consulting false m target q next tells acts = λ kept reply. on_recall m target q next tells _ (policy_in reply)
+
+on_course : (m : Message) (c : Course) (acts : List Act) → TellsAlong c → EachBehind Told acts (pursues m c)
+on_course m (free way) acts tells = on_way m way acts tells
+on_course m (consults target q next) acts tells = on_consulting (q.ttl == 0) m target q next tells acts
+
 -- what a message comes to by the reply to its Enter
 of_text : (r : Result Rendered Stop) → TellsNone (text_made r)
 of_text (Ok rendered) = tt
 of_text (Err stop) = refl
 
-at_view : (is_text : Bool) (view : View) (r : Request) (target : Target) → TellsOn (planned_at is_text view r target)
+at_view : (is_text : Bool) (view : View) (r : Request) (target : Target) → TellsAlong (planned_at is_text view r target)
 at_view true view r target = of_text _
 at_view false view r target = tells_its_admission _ _ _ _
 
-by_reply : (reply : Reply) (r : Request) (target : Target) → TellsOn (planned_by reply r target)
+by_reply : (reply : Reply) (r : Request) (target : Target) → TellsAlong (planned_by reply r target)
 by_reply (Entered view) r target = at_view view.api.is_text view r target
 by_reply NoStage r target = refl
+by_reply (Remembered policy) r target = refl
+by_reply NotRemembered r target = refl
+by_reply Learned r target = refl
 by_reply (Admitted key plan) r target = refl
 by_reply InvalidKey r target = refl
 by_reply (Throttled level) r target = refl
@@ -127,6 +158,9 @@ by_reply (Refused refusal) r target = refl
 by_size : (reply : Reply) (target : Target) → TellsNone (too_large_made reply target)
 by_size (Entered view) target = refl
 by_size NoStage target = refl
+by_size (Remembered policy) target = refl
+by_size NotRemembered target = refl
+by_size Learned target = refl
 by_size (Admitted key plan) target = refl
 by_size InvalidKey target = refl
 by_size (Throttled level) target = refl
@@ -138,7 +172,7 @@ by_size (Deployed number) target = refl
 by_size (Usage usage) target = refl
 by_size (Refused refusal) target = refl
 
-for_message : (large : Bool) (reply : Reply) (r : Request) (target : Target) → TellsOn (planned_for large reply r target)
+for_message : (large : Bool) (reply : Reply) (r : Request) (target : Target) → TellsAlong (planned_for large reply r target)
 for_message true reply r target = by_size reply target
 for_message false reply r target = by_reply reply r target
 
@@ -160,13 +194,13 @@ of_request true r target = tt
 of_request false r target = of_route (route_in r.method (segments_of target)) r.body
 
 on_order : (m : Message) (order : Result Command Made) → IsErrFree order → EachBehind Told [] (administered m order)
-on_order m (Ok command) free = λ kept reply. on_leave m (replied_made reply) (took (Admin m.moment command) kept reply ∷ []) tt
-on_order m (Err made) free = on_leave m made [] free
+on_order m (Ok command) none = λ kept reply. on_leave m (replied_made reply) (took (Admin m.moment command) kept reply ∷ []) tt
+on_order m (Err made) none = on_leave m made [] none
 
 on_target : (admin : Bool) (m : Message) (target : Target) → EachBehind Told [] (way_to admin m target)
 on_target true m target = on_order m (order_of m.too_large m.request target) (of_request m.too_large m.request target)
 on_target false m target = λ kept reply.
-    on_way m (planned_for m.too_large reply m.request target) (took (Enter m.moment m.word target.api target.stage) kept reply ∷ []) (for_message m.too_large reply m.request target)
+    on_course m (planned_for m.too_large reply m.request target) (took (Enter m.moment m.word target.api target.stage) kept reply ∷ []) (for_message m.too_large reply m.request target)
 
 on_walk : (m : Message) → EachBehind Told [] (walk m)
 unfolding walk
@@ -241,13 +275,36 @@ way_once : (m : Message) (w : Way) → AdmitsAtMost (follows m w)
 way_once m (goes plan) = at_most (performs m plan) (plan_none m plan)
 way_once m (admits target value next) = inl (λ reply. plan_none m (next (admission_of reply)))
 
+learns_once : (b : Bool) (m : Message) (target : Target) (q : Question) (next : Result Policy AuthorizerFault → Way) (policy : Policy) → AdmitsAtMost (learns b m target q next policy)
+learns_once true m target q next policy = way_once m (next (Ok policy))
+learns_once false m target q next policy = inr (refl, λ reply. way_once m (next (Ok policy)))
+
+gives_once : (m : Message) (target : Target) (q : Question) (next : Result Policy AuthorizerFault → Way) (given : Result Policy AuthorizerFault) → AdmitsAtMost (gives m target q next given)
+gives_once m target q next (Ok policy) = learns_once (q.ttl == 0) m target q next policy
+gives_once m target q next (Err why) = way_once m (next (Err why))
+
+inquires_once : (m : Message) (target : Target) (q : Question) (next : Result Policy AuthorizerFault → Way) → AdmitsAtMost (inquires m target q next)
+inquires_once m target q next = λ outcome. gives_once m target q next (policy_of outcome)
+
+recalled_once : (m : Message) (target : Target) (q : Question) (next : Result Policy AuthorizerFault → Way) (found : Option Policy) → AdmitsAtMost (recalled m target q next found)
+recalled_once m target q next (Some policy) = way_once m (next (Ok policy))
+recalled_once m target q next None = inquires_once m target q next
+
+consulted_once : (b : Bool) (m : Message) (target : Target) (q : Question) (next : Result Policy AuthorizerFault → Way) → AdmitsAtMost (consulted b m target q next)
+consulted_once true m target q next = inquires_once m target q next
+consulted_once false m target q next = inr (refl, λ reply. recalled_once m target q next (policy_in reply))
+
+course_once : (m : Message) (c : Course) → AdmitsAtMost (pursues m c)
+course_once m (free way) = way_once m way
+course_once m (consults target q next) = consulted_once (q.ttl == 0) m target q next
+
 order_none : (m : Message) (order : Result Command Made) → AdmitsNone (administered m order)
 order_none m (Ok command) = (refl, λ reply. leaves_none m (replied_made reply))
 order_none m (Err made) = leaves_none m made
 
 target_once : (admin : Bool) (m : Message) (target : Target) → AdmitsAtMost (way_to admin m target)
 target_once true m target = at_most (administered m (order_of m.too_large m.request target)) (order_none m (order_of m.too_large m.request target))
-target_once false m target = inr (refl, λ reply. way_once m (planned_for m.too_large reply m.request target))
+target_once false m target = inr (refl, λ reply. course_once m (planned_for m.too_large reply m.request target))
 
 walk_once : (m : Message) → AdmitsAtMost (walk m)
 unfolding walk
@@ -257,24 +314,28 @@ pub admits_once : AdmitsOnce
 admits_once m acts after g = once_in acts (walk m) after (walk_once m) g
 
 -- where an admission is asked for
-asks_at : (is_text : Bool) (view : View) (r : Request) (target : Target) → way_asks (planned_at is_text view r target) ≡ is_keyed_under is_text view r target
-asks_at true view r target = refl
-asks_at false view r target = method_asks _ _ _ _
+asks_at : (is_text : Bool) (view : View) (r : Request) (target : Target) (given : Result Policy AuthorizerFault)
+    → way_asks (way_along given (planned_at is_text view r target)) ≡ is_keyed_under is_text view r target given
+asks_at true view r target given = refl
+asks_at false view r target given = method_asks _ _ _ _ given
 
-asks_by : (reply : Reply) (r : Request) (target : Target) → way_asks (planned_by reply r target) ≡ is_keyed_by reply r target
-asks_by (Entered view) r target = asks_at view.api.is_text view r target
-asks_by NoStage r target = refl
-asks_by (Admitted key plan) r target = refl
-asks_by InvalidKey r target = refl
-asks_by (Throttled level) r target = refl
-asks_by (QuotaExceeded allowance used) r target = refl
-asks_by Store r target = refl
-asks_by (Left closing) r target = refl
-asks_by Done r target = refl
-asks_by (Deployed number) r target = refl
-asks_by (Usage usage) r target = refl
-asks_by (Refused refusal) r target = refl
+asks_by : (reply : Reply) (r : Request) (target : Target) (given : Result Policy AuthorizerFault) → way_asks (way_along given (planned_by reply r target)) ≡ is_keyed_by reply r target given
+asks_by (Entered view) r target given = asks_at view.api.is_text view r target given
+asks_by NoStage r target given = refl
+asks_by (Remembered policy) r target given = refl
+asks_by NotRemembered r target given = refl
+asks_by Learned r target given = refl
+asks_by (Admitted key plan) r target given = refl
+asks_by InvalidKey r target given = refl
+asks_by (Throttled level) r target given = refl
+asks_by (QuotaExceeded allowance used) r target given = refl
+asks_by Store r target given = refl
+asks_by (Left closing) r target given = refl
+asks_by Done r target given = refl
+asks_by (Deployed number) r target given = refl
+asks_by (Usage usage) r target given = refl
+asks_by (Refused refusal) r target given = refl
 
 pub asks_where_keyed : AsksWhereKeyed
-asks_where_keyed true reply r target = refl
-asks_where_keyed false reply r target = asks_by reply r target
+asks_where_keyed true reply r target given = refl
+asks_where_keyed false reply r target given = asks_by reply r target given

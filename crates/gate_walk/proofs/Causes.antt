@@ -1,5 +1,5 @@
 -- Each answer names its cause.
-use Rattle.std.proofs.Common.{◌≡◌, ℕ, Bool, true, false, List, Option, Some, None, Result, Ok, Err, refl}
+use Rattle.std.proofs.Common.{◌≡◌, ℕ, ◌==◌, Bool, true, false, List, Option, Some, None, Result, Ok, Err, refl}
 use Rattle.admin_routes.specs.Answers.{json_answer, json_made, replied_made, reply_status}
 use Rattle.admin_routes.specs.Asked.{Asked, asked_by}
 use Rattle.admin_routes.specs.Orders.{order_at, order_by, order_of}
@@ -7,7 +7,7 @@ use Rattle.admin_routes.specs.Routes.{is_admin, route_in, segments_of}
 use Rattle.admin_routes.specs.declared.routes.Route.{Route}
 use Rattle.book_rules.specs.declared.events.Command.{Command}
 use Rattle.book_rules.specs.declared.replies.Reply.{Reply}
-use Rattle.book_rules.specs.declared.replies.Reply.TheVariants.{Entered, NoStage, Admitted, InvalidKey, Throttled, QuotaExceeded, Store, Left, Done, Deployed, Usage, Refused}
+use Rattle.book_rules.specs.declared.replies.Reply.TheVariants.{Entered, NoStage, Remembered, NotRemembered, Learned, Admitted, InvalidKey, Throttled, QuotaExceeded, Store, Left, Done, Deployed, Usage, Refused}
 use Rattle.book_rules.specs.declared.replies.View.{View}
 use Rattle.call_facts.specs.Target.{target_of}
 use Rattle.call_facts.specs.declared.kind.Kind.{Kind}
@@ -18,17 +18,21 @@ use Rattle.gateway_answers.proofs.Causes.{names_one_cause}
 use Rattle.gateway_answers.specs.Answers.{failed_made}
 use Rattle.gateway_answers.specs.Causes.{causes_in}
 use Rattle.method_answers.proofs.Causes.{names_each}
-use Rattle.method_answers.specs.Causes.{Names, NamesEach, NamesOn, names_of}
-use Rattle.method_answers.specs.Plans.{Planned, Way, admits, answered, exchanges, goes, planned}
+use Rattle.method_answers.specs.Causes.{Names, NamesAlong, NamesEach, NamesOn, names_of}
+use Rattle.method_answers.specs.Plans.{Course, Planned, Way, admits, answered, consults, exchanges, free, goes, planned}
+use Rattle.method_answers.specs.declared.authorizing.Question.{Question}
+use Rattle.authorizer_call.specs.Outcomes.{policy_of}
+use Rattle.authorizer_call.specs.declared.fault.AuthorizerFault.{AuthorizerFault}
 use Rattle.api_model.specs.Definition.{Definition}
 use Rattle.call_facts.specs.declared.facts.CallFacts.{CallFacts}
 use Rattle.gate_walk.specs.Laws.{NamesItsCause}
-use Rattle.gate_walk.specs.Walk.{administered, admission_of, follows, is_head, leaves, performs, walk, way_to}
+use Rattle.gate_walk.specs.Walk.{administered, admission_of, consulted, follows, gives, inquires, is_head, learns, leaves, performs, policy_in, pursues, recalled, walk, way_to}
 use Rattle.gate_walk.specs.declared.message.Message.{Message}
 use Rattle.gate_walk.proofs.Ways.{Each, each_answer}
 use Rattle.http_edge.specs.Answers.{spelled}
 use Rattle.method_flow.specs.Answers.{gateway_answer, gateway_made, text_answer, text_made}
 use Rattle.method_flow.specs.declared.answers.Made.{Made}
+use Rattle.policy_core.specs.declared.policy.Policy.{Policy}
 use Rattle.vtl_eval.specs.declared.stop.Rendered.{Rendered}
 use Rattle.vtl_eval.specs.declared.stop.Stop.{Stop}
 
@@ -50,16 +54,19 @@ of_failure : (kind : Kind) (message : List ℕ) (d : Option Definition) (f : Cal
 of_failure kind message d f = names_one_cause kind message d f
 
 -- whatever is answered: at once, or to an outcome
-of_text_api : (r : Result Rendered Stop) → NamesOn (goes (answered (text_made r)))
+of_text_api : (r : Result Rendered Stop) → NamesAlong (free (goes (answered (text_made r))))
 of_text_api r = of_text r
 
-at_view : (is_text : Bool) (view : View) (r : Request) (target : Target) → NamesOn (planned_at is_text view r target)
+at_view : (is_text : Bool) (view : View) (r : Request) (target : Target) → NamesAlong (planned_at is_text view r target)
 at_view true view r target = of_text_api _
 at_view false view r target = names_each _ _ _ _
 
-by_reply : (reply : Reply) (r : Request) (target : Target) → NamesOn (planned_by reply r target)
+by_reply : (reply : Reply) (r : Request) (target : Target) → NamesAlong (planned_by reply r target)
 by_reply (Entered view) r target = at_view view.api.is_text view r target
 by_reply NoStage r target = of_gateway _
+by_reply (Remembered policy) r target = of_gateway _
+by_reply NotRemembered r target = of_gateway _
+by_reply Learned r target = of_gateway _
 by_reply (Admitted key plan) r target = of_gateway _
 by_reply InvalidKey r target = of_gateway _
 by_reply (Throttled level) r target = of_gateway _
@@ -74,6 +81,9 @@ by_reply (Refused refusal) r target = of_gateway _
 by_size : (reply : Reply) (target : Target) → Names (too_large_made reply target)
 by_size (Entered view) target = of_failure _ _ _ _
 by_size NoStage target = of_gateway _
+by_size (Remembered policy) target = of_gateway _
+by_size NotRemembered target = of_gateway _
+by_size Learned target = of_gateway _
 by_size (Admitted key plan) target = of_gateway _
 by_size InvalidKey target = of_gateway _
 by_size (Throttled level) target = of_gateway _
@@ -85,7 +95,7 @@ by_size (Deployed number) target = of_gateway _
 by_size (Usage usage) target = of_gateway _
 by_size (Refused refusal) target = of_gateway _
 
-for_message : (large : Bool) (reply : Reply) (r : Request) (target : Target) → NamesOn (planned_for large reply r target)
+for_message : (large : Bool) (reply : Reply) (r : Request) (target : Target) → NamesAlong (planned_for large reply r target)
 for_message true reply r target = by_size reply target
 for_message false reply r target = by_reply reply r target
 
@@ -124,9 +134,32 @@ on_planned : (m : Message) (w : Way) → NamesOn w → Each (Named m) false (fol
 on_planned m (goes plan) names = on_plan m plan names
 on_planned m (admits target value next) names = λ reply. on_plan m (next (admission_of reply)) (names (admission_of reply))
 
+on_learn : (b : Bool) (m : Message) (target : Target) (q : Question) (next : Result Policy AuthorizerFault → Way) (names : (given : Result Policy AuthorizerFault) → NamesOn (next given)) (policy : Policy) → Each (Named m) false (learns b m target q next policy)
+on_learn true m target q next names policy = on_planned m (next (Ok policy)) (names (Ok policy))
+on_learn false m target q next names policy = λ reply. on_planned m (next (Ok policy)) (names (Ok policy))
+
+on_given : (m : Message) (target : Target) (q : Question) (next : Result Policy AuthorizerFault → Way) (names : (given : Result Policy AuthorizerFault) → NamesOn (next given)) (given : Result Policy AuthorizerFault) → Each (Named m) false (gives m target q next given)
+on_given m target q next names (Ok policy) = on_learn (q.ttl == 0) m target q next names policy
+on_given m target q next names (Err why) = on_planned m (next (Err why)) (names (Err why))
+
+on_inquiry : (m : Message) (target : Target) (q : Question) (next : Result Policy AuthorizerFault → Way) (names : (given : Result Policy AuthorizerFault) → NamesOn (next given)) → Each (Named m) false (inquires m target q next)
+on_inquiry m target q next names = λ outcome. on_given m target q next names (policy_of outcome)
+
+on_recall : (m : Message) (target : Target) (q : Question) (next : Result Policy AuthorizerFault → Way) (names : (given : Result Policy AuthorizerFault) → NamesOn (next given)) (found : Option Policy) → Each (Named m) false (recalled m target q next found)
+on_recall m target q next names (Some policy) = on_planned m (next (Ok policy)) (names (Ok policy))
+on_recall m target q next names None = on_inquiry m target q next names
+
+on_consulting : (b : Bool) (m : Message) (target : Target) (q : Question) (next : Result Policy AuthorizerFault → Way) (names : (given : Result Policy AuthorizerFault) → NamesOn (next given)) → Each (Named m) false (consulted b m target q next)
+on_consulting true m target q next names = on_inquiry m target q next names
+on_consulting false m target q next names = λ reply. on_recall m target q next names (policy_in reply)
+
+on_course : (m : Message) (c : Course) → NamesAlong c → Each (Named m) false (pursues m c)
+on_course m (free way) names = on_planned m way names
+on_course m (consults target q next) names = on_consulting (q.ttl == 0) m target q next names
+
 on_target : (admin : Bool) (m : Message) (target : Target) → Each (Named m) false (way_to admin m target)
 on_target true m target = on_order m (order_of m.too_large m.request target) (of_request m.too_large m.request target)
-on_target false m target = λ reply. on_planned m (planned_for m.too_large reply m.request target) (for_message m.too_large reply m.request target)
+on_target false m target = λ reply. on_course m (planned_for m.too_large reply m.request target) (for_message m.too_large reply m.request target)
 
 on_way : (m : Message) → Each (Named m) false (walk m)
 unfolding walk

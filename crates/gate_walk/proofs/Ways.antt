@@ -1,8 +1,10 @@
 -- What holds of every way of a message.
-use Rattle.std.proofs.Common.{◌≡◌, ℕ, ◌+◌, ◌≤◌, ◌==◌, arith, Bool, true, false, ◌||◌, List, [], ◌∷◌, Option, Result, Ok, Err, ap, sym, subst, refl}
+use Rattle.std.proofs.Common.{◌≡◌, ℕ, ◌+◌, ◌≤◌, ◌==◌, arith, Bool, true, false, ◌||◌, List, [], ◌∷◌, Option, Some, None, Result, Ok, Err, ap, sym, subst, refl}
 use Rattle.admin_routes.specs.Answers.{replied_made}
 use Rattle.admin_routes.specs.Orders.{order_of}
 use Rattle.admin_routes.specs.Routes.{is_admin}
+use Rattle.authorizer_call.specs.Outcomes.{policy_of}
+use Rattle.authorizer_call.specs.declared.fault.AuthorizerFault.{AuthorizerFault}
 use Rattle.backend_core.specs.declared.outcome.Outcome.{Outcome}
 use Rattle.book_rules.specs.declared.events.Command.{Command}
 use Rattle.book_rules.specs.declared.replies.Reply.{Reply}
@@ -14,10 +16,12 @@ use Rattle.std.proofs.lemmas.Grind.{common_steps}
 use Rattle.gate_walk.specs.Acts.{Act, took, refused, sent, Goes, sent_by, given_to, leaves_closing, tell_closing}
 use Rattle.gate_walk.specs.Closing.{asks_close, closes, most_messages}
 use Rattle.gate_walk.specs.Planning.{planned_for}
-use Rattle.gate_walk.specs.Walk.{Call, asks, sends, answers, administered, admission_of, closing_by, follows, leaves, performs, walk, way_to}
+use Rattle.gate_walk.specs.Walk.{Call, asks, sends, answers, administered, admission_of, closing_by, consulted, follows, gives, inquires, learns, leaves, performs, policy_in, pursues, recalled, walk, way_to}
 use Rattle.gate_walk.specs.declared.message.Message.{Message}
-use Rattle.method_answers.specs.Plans.{Planned, Way, admits, answered, exchanges, goes}
+use Rattle.method_answers.specs.Plans.{Course, Planned, Way, admits, answered, consults, exchanges, free, goes}
+use Rattle.method_answers.specs.declared.authorizing.Question.{Question}
 use Rattle.method_flow.specs.declared.answers.Made.{Made}
+use Rattle.policy_core.specs.declared.policy.Policy.{Policy}
 
 -- It holds of each answer that a way may come to, with whether a Leave on it was replied that the session is closing.
 abbrev pub Each : (Option Kind → List ℕ → Bool → Bool → Type 0) → Bool → Call → Type 0
@@ -78,9 +82,32 @@ follows_closes : (m : Message) (w : Way) → Each (Closes m) false (follows m w)
 follows_closes m (goes plan) = plan_closes m plan
 follows_closes m (admits target value next) = λ reply. plan_closes m (next (admission_of reply))
 
+learns_closes : (b : Bool) (m : Message) (target : Target) (q : Question) (next : Result Policy AuthorizerFault → Way) (policy : Policy) → Each (Closes m) false (learns b m target q next policy)
+learns_closes true m target q next policy = follows_closes m (next (Ok policy))
+learns_closes false m target q next policy = λ reply. follows_closes m (next (Ok policy))
+
+gives_closes : (m : Message) (target : Target) (q : Question) (next : Result Policy AuthorizerFault → Way) (given : Result Policy AuthorizerFault) → Each (Closes m) false (gives m target q next given)
+gives_closes m target q next (Ok policy) = learns_closes (q.ttl == 0) m target q next policy
+gives_closes m target q next (Err why) = follows_closes m (next (Err why))
+
+inquires_closes : (m : Message) (target : Target) (q : Question) (next : Result Policy AuthorizerFault → Way) → Each (Closes m) false (inquires m target q next)
+inquires_closes m target q next = λ outcome. gives_closes m target q next (policy_of outcome)
+
+recalled_closes : (m : Message) (target : Target) (q : Question) (next : Result Policy AuthorizerFault → Way) (found : Option Policy) → Each (Closes m) false (recalled m target q next found)
+recalled_closes m target q next (Some policy) = follows_closes m (next (Ok policy))
+recalled_closes m target q next None = inquires_closes m target q next
+
+consulted_closes : (b : Bool) (m : Message) (target : Target) (q : Question) (next : Result Policy AuthorizerFault → Way) → Each (Closes m) false (consulted b m target q next)
+consulted_closes true m target q next = inquires_closes m target q next
+consulted_closes false m target q next = λ reply. recalled_closes m target q next (policy_in reply)
+
+course_closes : (m : Message) (c : Course) → Each (Closes m) false (pursues m c)
+course_closes m (free way) = follows_closes m way
+course_closes m (consults target q next) = consulted_closes (q.ttl == 0) m target q next
+
 way_closes : (admin : Bool) (m : Message) (target : Target) → Each (Closes m) false (way_to admin m target)
 way_closes true m target = order_closes m (order_of m.too_large m.request target)
-way_closes false m target = λ reply. follows_closes m (planned_for m.too_large reply m.request target)
+way_closes false m target = λ reply. course_closes m (planned_for m.too_large reply m.request target)
 
 walk_closes : (m : Message) → Each (Closes m) false (walk m)
 unfolding walk

@@ -7,7 +7,7 @@ use Rattle.backend_core.specs.declared.request.WireRequest.{WireRequest}
 use Rattle.book_rules.specs.History.{Base, Answers, is_full, total_size}
 use Rattle.book_rules.specs.declared.events.Entry.{Entry}
 use Rattle.book_rules.specs.declared.events.Event.{Event}
-use Rattle.book_rules.specs.declared.events.Event.TheVariants.{Enter, Admit, Admin, Leave}
+use Rattle.book_rules.specs.declared.events.Event.TheVariants.{Enter, Recall, Learn, Admit, Admin, Leave}
 use Rattle.book_rules.specs.declared.replies.Reply.{Reply}
 use Rattle.gate_walk.specs.Walk.{Call, asks, sends, answers, closing_by}
 use Rattle.gate_walk.specs.declared.ended.SessionFull.{SessionFull}
@@ -89,6 +89,8 @@ DrawsFrom (Some script) outcomes after = (left : List Outcome) × (after ≡ Som
 abbrev pub leaves_closing : Event → Reply → Bool
 leaves_closing (Leave status cause) reply = closing_by reply
 leaves_closing (Enter moment word api stage) reply = false
+leaves_closing (Recall moment name) reply = false
+leaves_closing (Learn moment name policy ttl) reply = false
 leaves_closing (Admit moment api stage value) reply = false
 leaves_closing (Admin moment command) reply = false
 

@@ -1,10 +1,11 @@
 -- What holds of ways and of histories.
-use Rattle.std.specs.Prelude.{◌≡◌, ◌≤◌, ℕ, Bool, true, false, List, [], ◌∷◌, ◌++◌, length, Option, Some, None}
+use Rattle.std.specs.Prelude.{◌≡◌, ◌≤◌, ℕ, Bool, true, false, List, [], ◌∷◌, ◌++◌, length, Option, Some, None, Result}
 use Rattle.std.specs.List.{filter}
+use Rattle.authorizer_call.specs.declared.fault.AuthorizerFault.{AuthorizerFault}
 use Rattle.book_rules.specs.History.{Base}
 use Rattle.book_rules.specs.declared.events.Entry.{Entry}
 use Rattle.book_rules.specs.declared.events.Event.{Event}
-use Rattle.book_rules.specs.declared.events.Event.TheVariants.{Enter, Admit, Admin, Leave}
+use Rattle.book_rules.specs.declared.events.Event.TheVariants.{Enter, Recall, Learn, Admit, Admin, Leave}
 use Rattle.book_rules.specs.declared.replies.Reply.{Reply}
 use Rattle.book_rules.specs.declared.replies.Reply.TheVariants.{Entered}
 use Rattle.book_rules.specs.declared.replies.View.{View}
@@ -17,10 +18,11 @@ use Rattle.gate_walk.specs.Planning.{planned_for}
 use Rattle.gate_walk.specs.Walk.{Call, admission_of, answers, is_head, walk}
 use Rattle.gate_walk.specs.declared.message.Message.{Message}
 use Rattle.http_edge.specs.Answers.{spelled}
-use Rattle.method_answers.specs.Admitting.{asks_admission as way_asks, is_keyed, tells_admission}
+use Rattle.method_answers.specs.Admitting.{asks_admission as way_asks, is_keyed, tells_admission, way_along}
 use Rattle.method_answers.specs.Causes.{names_of}
 use Rattle.method_answers.specs.declared.keys.Admission.TheVariants.{Refused}
 use Rattle.method_flow.specs.declared.answers.Made.{Made}
+use Rattle.policy_core.specs.declared.policy.Policy.{Policy}
 
 -- acts that stand in a history stand in each longer one in which their seat has no further entry
 abbrev pub StandsInLonger : Type 0
@@ -35,6 +37,8 @@ NamesItsCause =
 
 abbrev pub is_admit : Event → Bool
 is_admit (Enter moment word api stage) = false
+is_admit (Recall moment name) = false
+is_admit (Learn moment name policy ttl) = false
 is_admit (Admit moment api stage value) = true
 is_admit (Admin moment command) = false
 is_admit (Leave status cause) = false
@@ -61,20 +65,23 @@ asks_admission (sent request outcome) = false
 abbrev pub AdmitsOnce : Type 0
 AdmitsOnce = (m : Message) (acts : List Act) (after : Call) → Goes (walk m) acts after → length (filter asks_admission acts) ≤ 1
 
--- a stage's API is a document, and the route of a request to it hits a method that asks for a key
-abbrev pub is_keyed_under : Bool → View → Request → Target → Bool
-is_keyed_under true view r target = false
-is_keyed_under false view r target = is_keyed view.api r target
+-- a stage's API is a document, and the route of a request to it hits a method that asks for a key; where the method has an authorizer,
+-- what that gives lets the request by
+abbrev pub is_keyed_under : Bool → View → Request → Target → Result Policy AuthorizerFault → Bool
+is_keyed_under true view r target given = false
+is_keyed_under false view r target given = is_keyed view.api r target given
 
-abbrev pub is_keyed_by : Reply → Request → Target → Bool
-is_keyed_by (Entered view) r target = is_keyed_under view.api.is_text view r target
-is_keyed_by reply r target = false
+abbrev pub is_keyed_by : Reply → Request → Target → Result Policy AuthorizerFault → Bool
+is_keyed_by (Entered view) r target given = is_keyed_under view.api.is_text view r target given
+is_keyed_by reply r target given = false
 
 -- and its body is not too large
-abbrev pub is_keyed_for : Bool → Reply → Request → Target → Bool
-is_keyed_for true reply r target = false
-is_keyed_for false reply r target = is_keyed_by reply r target
+abbrev pub is_keyed_for : Bool → Reply → Request → Target → Result Policy AuthorizerFault → Bool
+is_keyed_for true reply r target given = false
+is_keyed_for false reply r target given = is_keyed_by reply r target given
 
--- An admission is asked for exactly there.
+-- An admission is asked for exactly there, whatever an authorizer gives.
 abbrev pub AsksWhereKeyed : Type 0
-AsksWhereKeyed = (large : Bool) (reply : Reply) (r : Request) (target : Target) → way_asks (planned_for large reply r target) ≡ is_keyed_for large reply r target
+AsksWhereKeyed =
+    (large : Bool) (reply : Reply) (r : Request) (target : Target) (given : Result Policy AuthorizerFault)
+    → way_asks (way_along given (planned_for large reply r target)) ≡ is_keyed_for large reply r target given

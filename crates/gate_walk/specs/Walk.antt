@@ -1,16 +1,18 @@
 -- The way of one message through the gateway, as a tree of what is asked next.
-use Rattle.std.specs.Prelude.{ℕ, Bool, true, false, ◌||◌, List, codes, Option, Result, Ok, Err}
+use Rattle.std.specs.Prelude.{ℕ, ◌==◌, Bool, true, false, ◌||◌, List, codes, Option, Some, None, Result, Ok, Err}
 use Rattle.std.specs.Str.{bytes_eq}
 use Rattle.admin_routes.specs.Answers.{replied_made}
 use Rattle.admin_routes.specs.Orders.{order_of}
 use Rattle.admin_routes.specs.Routes.{is_admin}
+use Rattle.authorizer_call.specs.Outcomes.{policy_of}
+use Rattle.authorizer_call.specs.declared.fault.AuthorizerFault.{AuthorizerFault}
 use Rattle.backend_core.specs.declared.outcome.Outcome.{Outcome}
 use Rattle.backend_core.specs.declared.request.WireRequest.{WireRequest}
 use Rattle.book_rules.specs.declared.events.Command.{Command}
 use Rattle.book_rules.specs.declared.events.Event.{Event}
-use Rattle.book_rules.specs.declared.events.Event.TheVariants.{Enter, Admit, Admin, Leave}
+use Rattle.book_rules.specs.declared.events.Event.TheVariants.{Enter, Recall, Learn, Admit, Admin, Leave}
 use Rattle.book_rules.specs.declared.replies.Reply.{Reply}
-use Rattle.book_rules.specs.declared.replies.Reply.TheVariants.{Entered, NoStage, Admitted, InvalidKey, Throttled, QuotaExceeded, Store, Left, Done, Deployed, Usage, Refused}
+use Rattle.book_rules.specs.declared.replies.Reply.TheVariants.{Entered, NoStage, Remembered, NotRemembered, Learned, Admitted, InvalidKey, Throttled, QuotaExceeded, Store, Left, Done, Deployed, Usage, Refused}
 use Rattle.call_facts.specs.Target.{target_of}
 use Rattle.call_facts.specs.declared.kind.Kind.{Kind}
 use Rattle.call_facts.specs.declared.kind.Kind.TheVariants as kinds
@@ -20,10 +22,13 @@ use Rattle.gate_walk.specs.Closing.{closes}
 use Rattle.gate_walk.specs.Planning.{planned_for}
 use Rattle.gate_walk.specs.declared.message.Message.{Message}
 use Rattle.http_edge.specs.Answers.{spelled}
-use Rattle.method_answers.specs.Plans.{Planned, Way, admits, answered as answered_by, exchanges, goes}
+use Rattle.method_answers.specs.Plans.{Course, Planned, Way, admits, answered as answered_by, consults, exchanges, free, goes}
+use Rattle.method_answers.specs.declared.authorizing.Question.{Question}
 use Rattle.method_answers.specs.declared.keys.Admission.{Admission}
 use Rattle.method_answers.specs.declared.keys.Admission.TheVariants as admission
 use Rattle.method_flow.specs.declared.answers.Made.{Made}
+use Rattle.policy_core.specs.declared.policy.Policy.{Policy}
+use Rattle.policy_memory.specs.declared.names.PolicyName.{PolicyName}
 
 -- What comes next: a step of the book, and what its reply leads to; an exchange with a backend, and what its outcome leads to; or
 -- the answer, with its cause, its bytes, and whether the connection closes behind it.
@@ -37,6 +42,9 @@ abbrev pub closing_by : Reply → Bool
 closing_by (Left closing) = closing
 closing_by (Entered view) = false
 closing_by NoStage = false
+closing_by (Remembered policy) = false
+closing_by NotRemembered = false
+closing_by Learned = false
 closing_by (Admitted key plan) = false
 closing_by InvalidKey = false
 closing_by (Throttled level) = false
@@ -76,6 +84,9 @@ admission_of (QuotaExceeded allowance used) = admission.Refused kinds.QuotaExcee
 admission_of Store = admission.Refused kinds.StoreFailure
 admission_of (Entered view) = admission.Refused kinds.StoreFailure
 admission_of NoStage = admission.Refused kinds.StoreFailure
+admission_of (Remembered policy) = admission.Refused kinds.StoreFailure
+admission_of NotRemembered = admission.Refused kinds.StoreFailure
+admission_of Learned = admission.Refused kinds.StoreFailure
 admission_of (Left closing) = admission.Refused kinds.StoreFailure
 admission_of Done = admission.Refused kinds.StoreFailure
 admission_of (Deployed number) = admission.Refused kinds.StoreFailure
@@ -87,9 +98,60 @@ abbrev pub follows : Message → Way → Call
 follows m (goes plan) = performs m plan
 follows m (admits target value next) = asks (Admit m.moment target.api target.stage value) (λ reply. performs m (next (admission_of reply)))
 
+-- the name under which the policy of a question is remembered, at the stage that is called
+abbrev pub name_of : Target → Question → PolicyName
+name_of target q = record { api = target.api; stage = target.stage; authorizer = q.authorizer; token = q.token }
+
+-- a policy that may not be remembered decides at once; another one is learned before it decides
+abbrev pub learns : Bool → Message → Target → Question → (Result Policy AuthorizerFault → Way) → Policy → Call
+learns true m target q next policy = follows m (next (Ok policy))
+learns false m target q next policy = asks (Learn m.moment (name_of target q) policy q.ttl) (λ reply. follows m (next (Ok policy)))
+
+-- what the authorizer gives decides
+abbrev pub gives : Message → Target → Question → (Result Policy AuthorizerFault → Way) → Result Policy AuthorizerFault → Call
+gives m target q next (Ok policy) = learns (q.ttl == 0) m target q next policy
+gives m target q next (Err why) = follows m (next (Err why))
+
+-- the authorizer is asked
+abbrev pub inquires : Message → Target → Question → (Result Policy AuthorizerFault → Way) → Call
+inquires m target q next = sends q.request (λ outcome. gives m target q next (policy_of outcome))
+
+-- the policy that a reply to a Recall remembers
+abbrev pub policy_in : Reply → Option Policy
+policy_in (Entered view) = None
+policy_in NoStage = None
+policy_in (Remembered policy) = Some policy
+policy_in NotRemembered = None
+policy_in Learned = None
+policy_in (Admitted key plan) = None
+policy_in InvalidKey = None
+policy_in (Throttled level) = None
+policy_in (QuotaExceeded allowance used) = None
+policy_in Store = None
+policy_in (Left closing) = None
+policy_in Done = None
+policy_in (Deployed number) = None
+policy_in (Usage usage) = None
+policy_in (Refused refusal) = None
+
+-- a policy that is remembered decides; where none is, the authorizer is asked
+abbrev pub recalled : Message → Target → Question → (Result Policy AuthorizerFault → Way) → Option Policy → Call
+recalled m target q next (Some policy) = follows m (next (Ok policy))
+recalled m target q next None = inquires m target q next
+
+-- where its policies may not be remembered, none is recalled
+abbrev pub consulted : Bool → Message → Target → Question → (Result Policy AuthorizerFault → Way) → Call
+consulted true m target q next = inquires m target q next
+consulted false m target q next = asks (Recall m.moment (name_of target q)) (λ reply. recalled m target q next (policy_in reply))
+
+-- it takes its way, or an authorizer is consulted first
+abbrev pub pursues : Message → Course → Call
+pursues m (free way) = follows m way
+pursues m (consults target q next) = consulted (q.ttl == 0) m target q next
+
 -- what follows its Enter
 abbrev pub entered : Message → Target → Reply → Call
-entered m target reply = follows m (planned_for m.too_large reply m.request target)
+entered m target reply = pursues m (planned_for m.too_large reply m.request target)
 
 abbrev pub walk_to : Message → Target → Call
 walk_to m target = asks (Enter m.moment m.word target.api target.stage) (entered m target)

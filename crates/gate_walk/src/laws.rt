@@ -18,7 +18,7 @@ pub fn a_kind_of_admission_stands_behind_an_admit()
 {}
 
 /// Behind its Enter a message asks for an admission exactly where its body is not too large, its stage stands, the API is a
-/// document, and the route hits a method that asks for a key.
+/// document, and the route hits a method that asks for a key and has no authorizer, or one that lets the request by.
 pub fn an_admission_is_asked_for_where_a_method_asks_for_a_key()
     ensures { AsksWhereKeyed }
 {}

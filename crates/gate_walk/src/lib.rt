@@ -17,6 +17,7 @@
 //! | to a stage of a text API | Enter, Leave with 200; the text of the template over the view of its Enter |
 //! | to a stage of an API that is a document | Enter, Leave; the first of its route, its parameters and its body that fails is answered, else what its integration answers without a backend |
 //! | to a method that asks a backend | Enter, one exchange, Leave with the answer to its outcome: the mapped or the passed reply, or 504 with its cause |
+//! | to a method that has an authorizer | Enter, Recall; where no policy is remembered, one exchange with the authorizer, and Learn of the policy that it gives; one that allows the call lets it go on, and else Leave with the kind that tells why. An authorizer whose policies may not be remembered is asked each time, without Recall and Learn |
 //! | to a method that asks for a key | Enter, then one Admit by the value of its header `x-api-key`; admitted, it goes on to its checks, and else Leave with the kind that tells why |
 //! | whose render stops | Enter, Leave with 500 and `API_CONFIGURATION_ERROR` |
 //! | to a stage that is not there | Enter, Leave with 403 and `UNKNOWN_STAGE` |
@@ -26,7 +27,7 @@
 //!
 //! * [`Message`] is a message with its number on the connection, its moment and its word of chance; [`plan_for`] makes what it
 //!   comes to by the reply to its Enter, and [`closes`] tells whether the connection closes behind it (RFC 9112, section 9.6).
-//! * [`admission_of`] tells what the reply to an Admit is to the call.
+//! * [`admission_of`] tells what the reply to an Admit is to the call, and [`policy_in`] which policy a reply to a Recall remembers.
 //! * [`Ended`] is how a connection ended, and [`LaneEnd`] how a lane did.
 //!
 //! What is promised: `plan_for` and `closes` are their definitions (`planned_for`, `specs/Planning.antt`; `closes`,
@@ -44,9 +45,11 @@ mod ended;
 pub mod laws;
 mod message;
 mod planning;
+mod recalling;
 
 pub use admitting::admission_of;
 pub use closing::closes;
 pub use ended::{Ended, LaneEnd, SessionFull};
 pub use message::Message;
 pub use planning::plan_for;
+pub use recalling::policy_in;

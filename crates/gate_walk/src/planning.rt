@@ -2,7 +2,7 @@
 ghost use Rattle.std.specs.Prelude.{◌≡◌, ◌≢◌, ◌<◌, [], Some, None, Ok, Err, IfOk};
 ghost use Rattle.book_rules.specs.Times.{IsInTime};
 ghost use Rattle.gate_walk.specs.Planning.{facts_of as facts_of_view, planned_at, planned_by, planned_for, too_large_made};
-ghost use Rattle.method_answers.specs.Plans.{answered, goes, way_of};
+ghost use Rattle.method_answers.specs.Plans.{answered, course_of, free, goes};
 ghost use Rattle.method_flow.specs.Answers.{text_made, text_over};
 ghost use Rattle.vtl_grammar.specs.Templates.{tree_of};
 
@@ -10,7 +10,7 @@ use book_rules::{Reply, View};
 use call_facts::{CallFacts, Kind, Request, Target};
 use gateway_answers::fail_by;
 use gw_base::{Memory, Text};
-use method_answers::{Plan, Way, plan_method};
+use method_answers::{Course, Plan, Way, plan_method};
 use method_flow::{Made, answer_itself, answer_text};
 use std::alloc::Global;
 use vtl_reader::Template;
@@ -35,10 +35,10 @@ fn facts_of(alloc: Global, target: &Target, view: &View) -> Result<CallFacts, Me
 }
 
 // This answer, whoever calls.
-fn answers<'a>(made: Made) -> Way<'a>
-    ensures { way_of result ≡ goes (answered made) }
+fn answers<'a>(made: Made) -> Course<'a>
+    ensures { course_of result ≡ free (goes (answered made)) }
 {
-    Way::Goes(Plan::Answered(made))
+    Course::Free(Way::Goes(Plan::Answered(made)))
 }
 
 // A text API answers with its template.
@@ -48,9 +48,9 @@ fn plan_text<'a>(
     request: &Request,
     target: &Target,
     facts: &CallFacts,
-) -> Result<Way<'a>, Memory>
+) -> Result<Course<'a>, Memory>
     requires { facts.now.at < 4102444800000 }
-    ensures { IfOk result (λ way. way_of way ≡ goes (answered (text_made (text_over request.now target.now facts.now (tree_of template.now))))) }
+    ensures { IfOk result (λ course. course_of course ≡ free (goes (answered (text_made (text_over request.now target.now facts.now (tree_of template.now)))))) }
 {
     Ok(answers(answer_text(alloc, template, request, target, facts)?))
 }
@@ -61,9 +61,9 @@ fn plan_at<'a>(
     view: &'a View,
     request: &'a Request,
     target: &'a Target,
-) -> Result<Way<'a>, Memory>
+) -> Result<Course<'a>, Memory>
     requires { view.now.at < 4102444800000 }
-    ensures { IfOk result (λ way. way_of way ≡ planned_at view.now.api.is_text view.now request.now target.now) }
+    ensures { IfOk result (λ course. course_of course ≡ planned_at view.now.api.is_text view.now request.now target.now) }
 {
     let facts = facts_of(alloc, target, view)?;
     let api = view.api.value();
@@ -79,9 +79,9 @@ fn plan_by<'a>(
     reply: &'a Reply,
     request: &'a Request,
     target: &'a Target,
-) -> Result<Way<'a>, Memory>
+) -> Result<Course<'a>, Memory>
     requires { IsInTime reply.now }
-    ensures { IfOk result (λ way. way_of way ≡ planned_by reply.now request.now target.now) }
+    ensures { IfOk result (λ course. course_of course ≡ planned_by reply.now request.now target.now) }
 {
     match reply {
         Reply::Entered(view) => plan_at(alloc, view, request, target),
@@ -104,8 +104,8 @@ fn refuse_size(alloc: Global, reply: &Reply, target: &Target) -> Result<Made, Me
     }
 }
 
-/// What a message comes to whose Enter was replied so: an answer, an exchange with a backend, or what its admission leads to. The
-/// size of its body is tested before its stage.
+/// What a message comes to whose Enter was replied so: an answer, an exchange with a backend, what its admission leads to, or what an
+/// authorizer lets it come to. The size of its body is tested before its stage.
 ///
 /// # Errors
 ///
@@ -116,9 +116,9 @@ pub fn plan_for<'a>(
     reply: &'a Reply,
     request: &'a Request,
     target: &'a Target,
-) -> Result<Way<'a>, Memory>
+) -> Result<Course<'a>, Memory>
     requires { IsInTime reply.now }
-    ensures { IfOk result (λ way. way_of way ≡ planned_for too_large reply.now request.now target.now) }
+    ensures { IfOk result (λ course. course_of course ≡ planned_for too_large reply.now request.now target.now) }
 {
     if too_large {
         Ok(answers(refuse_size(alloc, reply, target)?))

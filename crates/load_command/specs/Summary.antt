@@ -7,7 +7,7 @@ use Rattle.book_core.specs.declared.counts.Counts.{Counts}
 use Rattle.book_rules.specs.History.{tables_after}
 use Rattle.book_rules.specs.declared.events.Entry.{Entry}
 use Rattle.book_rules.specs.declared.events.Event.{Event}
-use Rattle.book_rules.specs.declared.events.Event.TheVariants.{Enter, Admit, Admin, Leave}
+use Rattle.book_rules.specs.declared.events.Event.TheVariants.{Enter, Recall, Learn, Admit, Admin, Leave}
 use Rattle.keeper_core.specs.Lists.{Lists, join_row}
 use Rattle.keeper_core.specs.declared.rows.JoinRow.{JoinRow}
 use Rattle.stage_canary.specs.Canaries.{takes_canary}
@@ -19,6 +19,8 @@ load_share = 2500
 -- the event is a call whose word the canary takes
 abbrev pub is_taken : Event → Bool
 is_taken (Enter moment word api stage) = takes_canary load_share word
+is_taken (Recall moment name) = false
+is_taken (Learn moment name policy ttl) = false
 is_taken (Admit moment api stage value) = false
 is_taken (Admin moment command) = false
 is_taken (Leave status cause) = false

@@ -19,7 +19,11 @@ fn is_of_canary(entry: &Entry) -> bool
 {
     match &entry.event {
         Event::Enter { word, .. } => takes_canary(SHARE, *word),
-        Event::Admit { .. } | Event::Admin { .. } | Event::Leave { .. } => false,
+        Event::Recall { .. }
+        | Event::Learn { .. }
+        | Event::Admit { .. }
+        | Event::Admin { .. }
+        | Event::Leave { .. } => false,
     }
 }
 

@@ -1,13 +1,21 @@
 -- The kinds that tell of an admission come of one alone.
-use Rattle.std.proofs.Common.{◌≡◌, ℕ, Bool, true, false, List, [], ◌∷◌, Option, Some, None, Ok, Err, refl}
-use Rattle.std.specs.Prelude.{IfSome}
+use Rattle.std.proofs.Common.{◌≡◌, ℕ, Bool, true, false, ◌&&◌, List, [], ◌∷◌, Option, Some, None, Result, Ok, Err, refl}
+use Rattle.std.specs.Prelude.{IfSome, is_some}
 use Rattle.std.specs.Option.{option_map}
 use Rattle.api_model.specs.Definition.{Definition}
-use Rattle.api_model.specs.Getters.{or_second, validator_of}
+use Rattle.api_model.specs.Getters.{authorizer_of, or_second, validator_of}
+use Rattle.api_parts.specs.declared.parts.Authorizer.{Authorizer}
 use Rattle.api_parts.specs.declared.parts.Parameter.{Parameter}
+use Rattle.api_parts.specs.declared.parts.TokenAuthorizer.{TokenAuthorizer}
 use Rattle.api_parts.specs.declared.parts.Validator.{Validator}
+use Rattle.authorizer_call.specs.Names.{arn_of}
+use Rattle.authorizer_call.specs.Outcomes.{allows}
+use Rattle.authorizer_call.specs.Requests.{authorizer_request_of}
+use Rattle.authorizer_call.specs.declared.fault.AuthorizerFault.{AuthorizerFault}
+use Rattle.authorizer_call.specs.declared.fault.AuthorizerFault.TheVariants as fault
 use Rattle.backend_core.specs.declared.outcome.Outcome.{Outcome}
 use Rattle.backend_core.specs.declared.outcome.Outcome.TheVariants as outcomes
+use Rattle.backend_core.specs.declared.request.WireRequest.{WireRequest}
 use Rattle.call_facts.specs.declared.answer.Answer.{Answer}
 use Rattle.call_facts.specs.declared.facts.CallFacts.{CallFacts}
 use Rattle.call_facts.specs.declared.request.Request.{Request}
@@ -21,20 +29,25 @@ use Rattle.integration_flow.specs.declared.stops.FlowStop.TheVariants.{Media, Co
 use Rattle.integration_request.specs.Requests.{wire_of}
 use Rattle.integration_request.specs.declared.made.Prepared.{Prepared}
 use Rattle.integration_request.specs.declared.made.Prepared.TheVariants.{Mock, Wire, Proxy}
-use Rattle.method_answers.specs.Admitting.{AsksWhereKeyed, TellsBy, TellsItsAdmission, TellsNone, TellsNoneEach, TellsOn, asks_admission, hits_keyed, tells_admission}
+use Rattle.method_answers.specs.Admitting.{AsksWhereKeyed, TellsAlong, TellsBy, TellsItsAdmission, TellsNone, TellsNoneEach, TellsOn, asks_admission, hits_keyed, is_authorized, is_let_by, lets_by, tells_admission, way_along}
 use Rattle.method_answers.specs.Calls.{Call}
 use Rattle.method_answers.specs.Failing.{failed_by as failure}
 use Rattle.method_answers.specs.Keys.{key_required}
 use Rattle.method_answers.specs.Outcomes.{answered_by, mapped_made, outcome_made, reply_made, ruled, stopped}
-use Rattle.method_answers.specs.Plans.{admitted, call_at, checked, keyed, planned, prepared, routed, validated, with_key}
+use Rattle.method_answers.specs.Plans.{admitted, asked, asked_by, authorized, call_at, checked, decided_by, fault_kind, judged, keyed, let_by, planned, prepared, refused_by, routed, validated, with_key, with_policy}
 use Rattle.method_answers.specs.declared.keys.Admission.{Admission}
 use Rattle.method_answers.specs.declared.keys.Admission.TheVariants.{Admitted, Refused}
 use Rattle.method_checks.specs.MediaTypes.{media_type}
 use Rattle.method_checks.specs.Missing.{missing_names}
 use Rattle.method_checks.specs.Routing.{route_of}
+use Rattle.method_checks.specs.Tokens.{token_of}
 use Rattle.method_checks.specs.Validating.{Failed, failed_body, failed_by, failed_by_names, failed_check, failed_if, failed_parameters, model_for, parameters_of, refuses}
 use Rattle.method_checks.specs.declared.routes.Route.{Route}
 use Rattle.method_checks.specs.declared.routes.Route.TheVariants.{TextApi, Hit, Missing}
+use Rattle.method_checks.specs.declared.tokens.Token.{Token}
+use Rattle.method_checks.specs.declared.tokens.Token.TheVariants as token
+use Rattle.policy_core.specs.Decisions.{decision}
+use Rattle.policy_core.specs.declared.policy.Policy.{Policy}
 use Rattle.resource_tree.specs.declared.found.Found.{Found}
 
 -- a check fails by no such kind
@@ -115,24 +128,86 @@ of_keyed : (b : Bool) (c : Call) → TellsOn (keyed b c)
 of_keyed true c = of_admission c
 of_keyed false c = of_checks c
 
-of_route : (d : Definition) (r : Request) (t : Target) (f : CallFacts) (route : Route) → TellsOn (routed d r t f route)
+of_let_by : (c : Call) → TellsOn (let_by c)
+of_let_by c = of_keyed (key_required c.definition c.method) c
+
+of_decision : (b : Bool) (c : Call) → TellsOn (decided_by b c)
+of_decision true c = of_let_by c
+of_decision false c = refl
+
+of_fault : (c : Call) (why : AuthorizerFault) → TellsOn (refused_by c (fault_kind why))
+of_fault c fault.Failure = refl
+of_fault c fault.Configuration = refl
+of_fault c fault.Memory = refl
+
+of_given : (c : Call) (arn : List ℕ) (given : Result Policy AuthorizerFault) → TellsOn (judged c arn given)
+of_given c arn (Ok policy) = of_decision (allows (decision policy arn)) (with_policy c policy)
+of_given c arn (Err why) = of_fault c why
+
+of_asked_by : (c : Call) (a : Authorizer) (arn text : List ℕ) (request : Option WireRequest) → TellsAlong (asked_by c a arn text request)
+of_asked_by c a arn text None = refl
+of_asked_by c a arn text (Some request) = of_given c arn
+
+of_asked : (c : Call) (arn text : List ℕ) (a : Option TokenAuthorizer) → TellsAlong (asked c arn text a)
+of_asked c arn text None = of_let_by c
+of_asked c arn text (Some a) = of_asked_by c a.authorizer arn text (authorizer_request_of a.authorizer text arn)
+
+of_token : (c : Call) (t : Token) → TellsAlong (authorized c t)
+of_token c token.None = of_let_by c
+of_token c token.Bad = refl
+of_token c (token.Taken text) = of_asked c (arn_of c.target c.request.method) text (authorizer_of c.definition c.method)
+
+of_route : (d : Definition) (r : Request) (t : Target) (f : CallFacts) (route : Route) → TellsAlong (routed d r t f route)
 of_route d r t f TextApi = refl
-of_route d r t f (Hit found method) = of_keyed (key_required d method) (call_at d r t f found method)
+of_route d r t f (Hit found method) = of_token (call_at d r t f found method) (token_of d method r)
 of_route d r t f Missing = refl
 
 pub tells_its_admission : TellsItsAdmission
 unfolding planned
 tells_its_admission d r t f = of_route d r t f (route_of d r t)
 
+-- where an admission is asked for
 asks_by : (b : Bool) (c : Call) → asks_admission (keyed b c) ≡ b
 asks_by true c = refl
 asks_by false c = refl
 
-asks_at : (d : Definition) (r : Request) (t : Target) (f : CallFacts) (route : Route) → asks_admission (routed d r t f route) ≡ hits_keyed d route
-asks_at d r t f TextApi = refl
-asks_at d r t f (Hit found method) = asks_by (key_required d method) (call_at d r t f found method)
-asks_at d r t f Missing = refl
+asks_let_by : (c : Call) → asks_admission (let_by c) ≡ key_required c.definition c.method
+asks_let_by c = asks_by (key_required c.definition c.method) c
+
+asks_decided : (b : Bool) (c : Call) → asks_admission (decided_by b c) ≡ (b && key_required c.definition c.method)
+asks_decided true c = asks_let_by c
+asks_decided false c = refl
+
+asks_given : (c : Call) (arn : List ℕ) (given : Result Policy AuthorizerFault) → asks_admission (judged c arn given) ≡ (lets_by arn given && key_required c.definition c.method)
+asks_given c arn (Ok policy) = asks_decided (allows (decision policy arn)) (with_policy c policy)
+asks_given c arn (Err why) = refl
+
+asks_asked_by :
+    (c : Call) (a : Authorizer) (arn text : List ℕ) (given : Result Policy AuthorizerFault) (request : Option WireRequest)
+    → asks_admission (way_along given (asked_by c a arn text request)) ≡ ((is_some request && lets_by arn given) && key_required c.definition c.method)
+asks_asked_by c a arn text given None = refl
+asks_asked_by c a arn text given (Some request) = asks_given c arn given
+
+asks_asked :
+    (c : Call) (arn text : List ℕ) (given : Result Policy AuthorizerFault) (a : Option TokenAuthorizer)
+    → asks_admission (way_along given (asked c arn text a)) ≡ (is_let_by arn text given a && key_required c.definition c.method)
+asks_asked c arn text given None = asks_let_by c
+asks_asked c arn text given (Some a) = asks_asked_by c a.authorizer arn text given (authorizer_request_of a.authorizer text arn)
+
+asks_token :
+    (c : Call) (given : Result Policy AuthorizerFault) (t : Token)
+    → asks_admission (way_along given (authorized c t)) ≡ (is_authorized c.definition c.request c.target c.method given t && key_required c.definition c.method)
+asks_token c given token.None = asks_let_by c
+asks_token c given token.Bad = refl
+asks_token c given (token.Taken text) = asks_asked c (arn_of c.target c.request.method) text given (authorizer_of c.definition c.method)
+
+asks_at :
+    (d : Definition) (r : Request) (t : Target) (f : CallFacts) (given : Result Policy AuthorizerFault) (route : Route)
+    → asks_admission (way_along given (routed d r t f route)) ≡ hits_keyed d r t given route
+asks_at d r t f given TextApi = refl
+asks_at d r t f given (Hit found method) = asks_token (call_at d r t f found method) given (token_of d method r)
+asks_at d r t f given Missing = refl
 
 pub asks_where_keyed : AsksWhereKeyed
 unfolding planned
-asks_where_keyed d r t f = asks_at d r t f (route_of d r t)
+asks_where_keyed d r t f given = asks_at d r t f given (route_of d r t)

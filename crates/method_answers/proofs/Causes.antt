@@ -1,9 +1,17 @@
 -- Each answer to a request for an API that is a document names its cause.
-use Rattle.std.proofs.Common.{◌≡◌, ℕ, Bool, true, false, List, [], Option, Some, None, Result, Ok, Err, refl}
+use Rattle.std.proofs.Common.{ℕ, Bool, true, false, List, Option, Some, None, Result, Ok, Err}
 use Rattle.api_model.specs.Definition.{Definition}
+use Rattle.api_model.specs.Getters.{authorizer_of}
+use Rattle.api_parts.specs.declared.parts.Authorizer.{Authorizer}
 use Rattle.api_parts.specs.declared.parts.ResponseRule.{ResponseRule}
+use Rattle.api_parts.specs.declared.parts.TokenAuthorizer.{TokenAuthorizer}
+use Rattle.authorizer_call.specs.Names.{arn_of}
+use Rattle.authorizer_call.specs.Outcomes.{allows}
+use Rattle.authorizer_call.specs.Requests.{authorizer_request_of}
+use Rattle.authorizer_call.specs.declared.fault.AuthorizerFault.{AuthorizerFault}
 use Rattle.backend_core.specs.declared.outcome.Outcome.{Outcome}
 use Rattle.backend_core.specs.declared.outcome.Outcome.TheVariants as outcomes
+use Rattle.backend_core.specs.declared.request.WireRequest.{WireRequest}
 use Rattle.call_facts.specs.declared.answer.Answer.{Answer}
 use Rattle.call_facts.specs.declared.facts.CallFacts.{CallFacts}
 use Rattle.call_facts.specs.declared.kind.Kind.{Kind}
@@ -19,17 +27,22 @@ use Rattle.integration_request.specs.Requests.{wire_of}
 use Rattle.integration_request.specs.declared.made.Prepared.{Prepared}
 use Rattle.integration_request.specs.declared.made.Prepared.TheVariants.{Mock, Wire, Proxy}
 use Rattle.method_answers.specs.Calls.{Call}
-use Rattle.method_answers.specs.Causes.{Names, NamesEach, NamesOn, NamesItsCause}
+use Rattle.method_answers.specs.Causes.{Names, NamesAlong, NamesEach, NamesOn, NamesItsCause}
 use Rattle.method_answers.specs.Keys.{key_required}
 use Rattle.method_answers.specs.Outcomes.{answered_by, mapped_made, outcome_made, reply_made, ruled}
-use Rattle.method_answers.specs.Plans.{Planned, admitted, answered, call_at, checked, exchanges, integrated, keyed, planned, prepared, routed, validated, with_key}
+use Rattle.method_answers.specs.Plans.{admitted, asked, asked_by, authorized, call_at, checked, decided_by, judged, keyed, let_by, planned, prepared, routed, validated, with_key, with_policy}
 use Rattle.method_answers.specs.declared.keys.Admission.{Admission}
 use Rattle.method_answers.specs.declared.keys.Admission.TheVariants.{Admitted, Refused}
 use Rattle.method_answers.proofs.Free.{NamesNone, client_names_none, proxied_names_none}
 use Rattle.method_checks.specs.Routing.{route_of}
+use Rattle.method_checks.specs.Tokens.{token_of}
 use Rattle.method_checks.specs.Validating.{failed_check}
 use Rattle.method_checks.specs.declared.routes.Route.{Route}
 use Rattle.method_checks.specs.declared.routes.Route.TheVariants.{TextApi, Hit, Missing}
+use Rattle.method_checks.specs.declared.tokens.Token.{Token}
+use Rattle.method_checks.specs.declared.tokens.Token.TheVariants as token
+use Rattle.policy_core.specs.Decisions.{decision}
+use Rattle.policy_core.specs.declared.policy.Policy.{Policy}
 
 of_failure : (kind : Kind) (message : List ℕ) (d : Option Definition) (f : CallFacts) → Names (failed_made kind message d f)
 of_failure kind message d f = names_one_cause kind message d f
@@ -77,9 +90,33 @@ of_keyed : (b : Bool) (c : Call) → NamesOn (keyed b c)
 of_keyed true c = of_admission c
 of_keyed false c = of_checks c
 
-of_found : (d : Definition) (r : Request) (t : Target) (f : CallFacts) (route : Route) → NamesOn (routed d r t f route)
+of_let_by : (c : Call) → NamesOn (let_by c)
+of_let_by c = of_keyed (key_required c.definition c.method) c
+
+of_decision : (b : Bool) (c : Call) → NamesOn (decided_by b c)
+of_decision true c = of_let_by c
+of_decision false c = of_failure _ _ _ _
+
+of_given : (c : Call) (arn : List ℕ) (given : Result Policy AuthorizerFault) → NamesOn (judged c arn given)
+of_given c arn (Ok policy) = of_decision (allows (decision policy arn)) (with_policy c policy)
+of_given c arn (Err why) = of_failure _ _ _ _
+
+of_asked_by : (c : Call) (a : Authorizer) (arn text : List ℕ) (request : Option WireRequest) → NamesAlong (asked_by c a arn text request)
+of_asked_by c a arn text None = of_failure _ _ _ _
+of_asked_by c a arn text (Some request) = of_given c arn
+
+of_asked : (c : Call) (arn text : List ℕ) (a : Option TokenAuthorizer) → NamesAlong (asked c arn text a)
+of_asked c arn text None = of_let_by c
+of_asked c arn text (Some a) = of_asked_by c a.authorizer arn text (authorizer_request_of a.authorizer text arn)
+
+of_token : (c : Call) (t : Token) → NamesAlong (authorized c t)
+of_token c token.None = of_let_by c
+of_token c token.Bad = of_failure _ _ _ _
+of_token c (token.Taken text) = of_asked c (arn_of c.target c.request.method) text (authorizer_of c.definition c.method)
+
+of_found : (d : Definition) (r : Request) (t : Target) (f : CallFacts) (route : Route) → NamesAlong (routed d r t f route)
 of_found d r t f TextApi = of_failure _ _ _ _
-of_found d r t f (Hit found method) = of_keyed (key_required d method) (call_at d r t f found method)
+of_found d r t f (Hit found method) = of_token (call_at d r t f found method) (token_of d method r)
 of_found d r t f Missing = of_failure _ _ _ _
 
 pub names_each : NamesItsCause

@@ -1,5 +1,5 @@
 -- Answers that come of a backend's reply name no cause.
-use Rattle.std.proofs.Common.{◌≡◌, ℕ, Bool, true, false, cond, not, ◌&&◌, List, [], ◌∷◌, map, codes, bytes_eq, All, Option, Some, None, Result, Ok, Err, ap, sym, ◌∙◌, subst, refl, arith}
+use Rattle.std.proofs.Common.{◌≡◌, ℕ, Bool, true, false, cond, not, ◌&&◌, List, [], ◌∷◌, map, codes, bytes_eq, All, Option, Ok, Err, ap, sym, ◌∙◌, refl, arith}
 use Rattle.std.specs.List.{filter, list_all}
 use Rattle.std.proofs.lemmas.List.Elements.{All-tail}
 use Rattle.std.proofs.lemmas.Slice.Eq.{bytes_eq-Decides}
@@ -19,12 +19,11 @@ use Rattle.gw_base.specs.Names.{is_token, is_token_byte, same_name}
 use Rattle.integration_flow.specs.Answers.{answer_at, answer_by, answer_from, answer_with, are_writable, client_of, if_writable, rendered_media, status_over, written}
 use Rattle.integration_flow.specs.Headers.{content_type, mapped, replaced, typed, without, without_first, written_over}
 use Rattle.integration_flow.specs.Stopping.{Flow}
-use Rattle.integration_flow.specs.declared.stops.FlowStop.TheVariants.{Config}
 use Rattle.integration_flow.specs.declared.written.Written.{Written}
 use Rattle.method_checks.specs.MediaTypes.{media_type}
 use Rattle.resource_tree.specs.Parameters.{value_at}
 use Rattle.resource_tree.specs.declared.found.Found.{Found}
-use Rattle.wire_text.specs.Passing.{held_back, is_among, passed_on_of, proxied}
+use Rattle.wire_text.specs.Passing.{held_back, is_among, proxied}
 use Rattle.wire_text.proofs.Passed.{never_passed_on}
 
 abbrev Header : Type 0

@@ -4,3 +4,5 @@ mod Free
 pub mod Causes
 -- the kinds that tell of an admission
 pub mod Admitting
+-- the authorizer of a method is asked
+mod Asking

@@ -1,5 +1,6 @@
 -- The causes that answers name.
-use Rattle.std.specs.Prelude.{◌≡◌, List, [], ◌∷◌, ℕ, Option, Some, None}
+use Rattle.std.specs.Prelude.{◌≡◌, List, [], ◌∷◌, ℕ, Option, Some, None, Result}
+use Rattle.authorizer_call.specs.declared.fault.AuthorizerFault.{AuthorizerFault}
 use Rattle.api_model.specs.Definition.{Definition}
 use Rattle.backend_core.specs.declared.outcome.Outcome.{Outcome}
 use Rattle.call_facts.specs.Kinds.{kind_name}
@@ -8,9 +9,10 @@ use Rattle.call_facts.specs.declared.kind.Kind.{Kind}
 use Rattle.call_facts.specs.declared.request.Request.{Request}
 use Rattle.call_facts.specs.declared.target.Target.{Target}
 use Rattle.gateway_answers.specs.Causes.{causes_in}
-use Rattle.method_answers.specs.Plans.{Planned, Way, admits, answered, exchanges, goes, planned}
+use Rattle.method_answers.specs.Plans.{Course, Planned, Way, admits, answered, consults, exchanges, free, goes, planned}
 use Rattle.method_answers.specs.declared.keys.Admission.{Admission}
 use Rattle.method_flow.specs.declared.answers.Made.{Made}
+use Rattle.policy_core.specs.declared.policy.Policy.{Policy}
 
 abbrev pub names_of : Option Kind → List (List ℕ)
 names_of None = []
@@ -30,6 +32,11 @@ abbrev pub NamesOn : Way → Type 0
 NamesOn (goes plan) = NamesEach plan
 NamesOn (admits target value next) = (a : Admission) → NamesEach (next a)
 
+-- and whatever an authorizer gives
+abbrev pub NamesAlong : Course → Type 0
+NamesAlong (free way) = NamesOn way
+NamesAlong (consults target question next) = (given : Result Policy AuthorizerFault) → NamesOn (next given)
+
 -- and whatever a request to an API that is a document comes to
 abbrev pub NamesItsCause : Type 0
-NamesItsCause = (d : Definition) (r : Request) (t : Target) (f : CallFacts) → NamesOn (planned d r t f)
+NamesItsCause = (d : Definition) (r : Request) (t : Target) (f : CallFacts) → NamesAlong (planned d r t f)

@@ -1,10 +1,11 @@
 // A call behind its route.
 ghost use Rattle.std.specs.Prelude.{◌≡◌};
-ghost use Rattle.method_answers.specs.Plans.{with_key as with_key_of};
+ghost use Rattle.method_answers.specs.Plans.{with_key as with_key_of, with_policy as with_policy_of};
 
 use api_model::Api;
 use call_facts::{CallFacts, Request, Target};
-use gw_base::Name;
+use gw_base::{Name, Shared};
+use policy_core::Policy;
 use resource_tree::Found;
 use std::marker::Model;
 
@@ -52,6 +53,29 @@ impl<'a> RoutedCall<'a> {
             mut facts,
         } = self;
         facts.key = Some(key);
+        RoutedCall {
+            api,
+            method,
+            request,
+            target,
+            found,
+            facts,
+        }
+    }
+
+    /// The same call, of which it is known that an authorizer gave this policy.
+    pub(crate) fn with_policy(self, policy: Shared<Policy>) -> Self
+        ensures { result ≡ with_policy_of self.entry policy }
+    {
+        let RoutedCall {
+            api,
+            method,
+            request,
+            target,
+            found,
+            mut facts,
+        } = self;
+        facts.policy = Some(policy);
         RoutedCall {
             api,
             method,

@@ -2,8 +2,9 @@
 ghost use Rattle.method_answers.specs.Admitting.{AsksWhereKeyed, TellsItsAdmission};
 ghost use Rattle.method_answers.specs.Causes.{NamesItsCause};
 
-/// Whatever a request to an API that is a document comes to, and whatever an exchange comes to that it asks for: the answer names
-/// the one cause that it has, and one without a cause names none, whatever a backend's reply and the rules of the API are.
+/// Whatever a request to an API that is a document comes to, whatever its authorizer gives, and whatever an exchange comes to that
+/// it asks for: the answer names the one cause that it has, and one without a cause names none, whatever a backend's reply and the
+/// rules of the API are.
 pub fn an_answer_names_its_one_cause()
     ensures { NamesItsCause }
 {}
@@ -14,7 +15,8 @@ pub fn a_kind_of_admission_comes_of_one()
     ensures { TellsItsAdmission }
 {}
 
-/// An admission is asked for exactly where the route hits a method that asks for a key.
+/// An admission is asked for exactly where the route hits a method that asks for a key, and where that has an authorizer, the call
+/// hands in a good token, and the authorizer gives a policy that allows it.
 pub fn a_key_is_asked_for_where_the_method_asks_for_one()
     ensures { AsksWhereKeyed }
 {}

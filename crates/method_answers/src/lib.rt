@@ -1,12 +1,20 @@
-//! What a call of an API that is a document comes to: its route, its key, its parameters and its body are looked at in turn, and
-//! the first that fails is answered by the gateway itself; behind them its method's integration answers, or asks a backend.
+//! What a call of an API that is a document comes to: its route, its authorizer, its key, its parameters and its body are looked at
+//! in turn, and the first that fails is answered by the gateway itself; behind them its method's integration answers, or asks a
+//! backend.
 //!
 //! ```text
-//! let plan = match plan_method(alloc, &api, &request, &target, facts)? {
+//! let way = match plan_method(alloc, &api, &request, &target, facts)? {
+//!     Course::Free(way) => way,
+//!     Course::Consults(asking) => match ask(asking.target(), &asking.question) {   // a policy, or AuthorizerFault::Failure
+//!         Ok(policy) => asking.judged_by(alloc, policy)?,     // 403, x-gateway-cause: ACCESS_DENIED, where it does not allow
+//!         Err(fault) => asking.failed(alloc, fault)?,         // 500, x-gateway-cause: AUTHORIZER_FAILURE
+//!     },
+//! };
+//! let plan = match way {
 //!     Way::Goes(plan) => plan,
 //!     Way::Admits(keyed) => {
-//!         let admission = ask(keyed.target(), keyed.value(alloc)?);   // Admission::Admitted(key), or Refused(Kind::Throttled)
-//!         keyed.admitted(alloc, admission)?                           // else 429, x-gateway-cause: THROTTLED
+//!         let admission = admit(keyed.target(), keyed.value(alloc)?);   // Admission::Admitted(key), or Refused(Kind::Throttled)
+//!         keyed.admitted(alloc, admission)?                             // else 429, x-gateway-cause: THROTTLED
 //!     }
 //! };
 //! match plan {
@@ -21,6 +29,12 @@
 //! | Call | Comes to, where the API has no rules |
 //! |---|---|
 //! | of a path that no resource has, or of a verb that the resource has not | 403, `MISSING_AUTHENTICATION_TOKEN` |
+//! | of a method with an authorizer, without its header, with an empty one, or with one that its pattern does not match as a whole | 401, `UNAUTHORIZED` |
+//! | of such a method, with a good token | the question whether its authorizer lets it by, before its key |
+//! | whose authorizer failed: `AuthorizerFault::Failure` | 500, `AUTHORIZER_FAILURE` |
+//! | whose authorizer's reply is no policy: `AuthorizerFault::Configuration` | 500, `AUTHORIZER_CONFIGURATION_ERROR` |
+//! | that its policy does not allow | 403, `ACCESS_DENIED` |
+//! | that its policy allows | as one of a method without an authorizer; `$context.authorizer.principalId` is the policy's |
 //! | of a method with `"apiKeyRequired":true` | an admission, by the value of its header `x-api-key`, before its checks |
 //! | that an admission refuses as `Kind::InvalidApiKey`, `Throttled`, `QuotaExceeded`, `StoreFailure` | 403, 429, 429, 500, of that kind |
 //! | that is admitted | as one of a method that asks for no key; `$context.identity.apiKeyId` is the key |
@@ -38,15 +52,18 @@
 //! | a failure, a lapse of time | 504, `INTEGRATION_FAILURE`, `INTEGRATION_TIMEOUT` |
 //!
 //! The gateway's own answers are made by `gateway_answers`, so that the rules of the API change their status, headers and body.
-//! `$context.resourcePath` is the empty text before a route is found, and the resource's path behind it.
+//! `$context.resourcePath` is the empty text before a route is found, and the resource's path behind it. A call that is refused by
+//! its policy tells that policy's principal and context to the rules too.
 //!
-//! What is promised, for every definition, request, target and all facts: [`plan_method`] is `planned` of `specs/Plans.antt`, and
-//! [`Exchange::answer`] is `outcome_made` of `specs/Outcomes.antt`. Want of memory alone has no cause. As a law ([`laws`]), each of
-//! these answers names the one cause that it has, and one without a cause names none, whatever a backend replied; the kinds of a
-//! refused admission come of one alone; and an admission is asked for exactly where the method asks for a key. Left out:
-//! authorizers, and what decides an admission.
+//! What is promised, for every definition, request, target and all facts: [`plan_method`] is `planned` of `specs/Plans.antt`,
+//! [`Authorizing::judged_by`] and [`Authorizing::failed`] are `judged` there, and [`Exchange::answer`] is `outcome_made` of
+//! `specs/Outcomes.antt`. Want of memory alone has no cause. As a law ([`laws`]), each of these answers names the one cause that it
+//! has, and one without a cause names none, whatever an authorizer gives and a backend replied; the kinds of a refused admission
+//! come of one alone; and an admission is asked for exactly where the method asks for a key and its authorizer, where it has one,
+//! lets the call by. Left out: the exchange with an authorizer, policies that are remembered, and what decides an admission.
 #![tactic(auto)]
 
+mod authorizing;
 mod calls;
 mod failing;
 mod keys;
@@ -55,7 +72,8 @@ mod outcomes;
 mod planning;
 mod plans;
 
+pub use authorizing::{Authorizing, Question};
 pub use calls::RoutedCall;
 pub use keys::{Admission, Keyed};
 pub use planning::plan_method;
-pub use plans::{Exchange, Plan, Way};
+pub use plans::{Course, Exchange, Plan, Way};

@@ -3,14 +3,14 @@ ghost use Rattle.std.specs.Prelude.{◌≡◌, ◌<◌, length, IfOk, Ok, Err};
 ghost use Rattle.api_model.specs.Definition.{parts_of};
 ghost use Rattle.integration_flow.specs.Stopping.{Flows};
 ghost use Rattle.integration_request.specs.Requests.{HasStatus, wire_of};
-ghost use Rattle.method_answers.specs.Plans.{at_resource as at_resource_of, checked, integrated, keyed, plan_of, planned, validated, way_of};
-ghost use Rattle.method_answers.specs.Keys.{key_required};
+ghost use Rattle.method_answers.specs.Plans.{at_resource as at_resource_of, checked, course_of, integrated, let_by, plan_of, planned, validated, way_of};
 
+use crate::authorizing::plan_authorized;
 use crate::calls::RoutedCall;
 use crate::failing::failed_by;
 use crate::keys::Keyed;
 use crate::outcomes::{answer_mapped, answer_stopped};
-use crate::plans::{Exchange, Plan, Way};
+use crate::plans::{Course, Exchange, Plan, Way};
 use api_model::Api;
 use backend_core::WireRequest;
 use call_facts::{CallFacts, Kind, Request, Target};
@@ -111,9 +111,9 @@ pub(crate) fn plan_validated<'a>(alloc: Global, call: RoutedCall<'a>) -> Result<
     plan_checked(alloc, call, failed)
 }
 
-// Before the checks: where the method asks for a key, the call must be admitted.
-fn plan_keyed<'a>(alloc: Global, call: RoutedCall<'a>) -> Result<Way<'a>, Memory>
-    ensures { IfOk result (λ way. way_of way ≡ keyed (key_required call.entry.definition call.entry.method) call.entry) }
+/// Before the checks of a call that its authorizer lets by: where the method asks for a key, the call must be admitted.
+pub(crate) fn plan_let_by<'a>(alloc: Global, call: RoutedCall<'a>) -> Result<Way<'a>, Memory>
+    ensures { IfOk result (λ way. way_of way ≡ let_by call.entry) }
 {
     if call.api.api_key_required(call.method) {
         Ok(Way::Admits(Keyed { call }))
@@ -122,14 +122,16 @@ fn plan_keyed<'a>(alloc: Global, call: RoutedCall<'a>) -> Result<Way<'a>, Memory
     }
 }
 
-/// What a request for an API that is a document comes to: the first of its route, its key, its parameters and its body that fails
-/// is answered (API Gateway Developer Guide, "API keys", "Request validation" and "Gateway responses"), and behind these checks its
-/// method's integration answers it, or asks a backend. Where the method asks for a key, an admission decides. The call's moment is
-/// before the year 2100.
+/// What a request for an API that is a document comes to: the first of its route, its authorizer, its key, its parameters and its
+/// body that fails is answered (API Gateway Developer Guide, "Use API Gateway Lambda authorizers", "API keys", "Request validation"
+/// and "Gateway responses"), and behind these checks its method's integration answers it, or asks a backend. Where the method has
+/// an authorizer and the call a good token, that is asked; where the method asks for a key, an admission decides. The call's moment
+/// is before the year 2100.
 ///
 /// # Errors
 ///
-/// [`Memory`] where there is no memory for the route, for the checks, for the request to the backend or for the answer.
+/// [`Memory`] where there is no memory for the route, for the token, for the request to the authorizer, for the checks, for the
+/// request to the backend or for the answer.
 #[tactic(auto, unfolding(crate::specs::Plans::planned))]
 pub fn plan_method<'a>(
     alloc: Global,
@@ -137,14 +139,14 @@ pub fn plan_method<'a>(
     request: &'a Request,
     target: &'a Target,
     facts: CallFacts,
-) -> Result<Way<'a>, Memory>
+) -> Result<Course<'a>, Memory>
     requires { facts.at < 4102444800000 }
-    ensures { IfOk result (λ way. way_of way ≡ planned api.now request.now target.now facts) }
+    ensures { IfOk result (λ course. course_of course ≡ planned api.now request.now target.now facts) }
 {
     let kind = match route(alloc, api, request, target)? {
         Route::Hit(found, method) => {
             let facts = at_resource(alloc, api, facts, found.resource)?;
-            return plan_keyed(
+            return plan_authorized(
                 alloc,
                 RoutedCall {
                     api,
@@ -159,5 +161,6 @@ pub fn plan_method<'a>(
         Route::Missing => Kind::MissingAuthenticationToken,
         Route::TextApi => Kind::ApiConfigurationError,
     };
-    Ok(Way::Goes(Plan::Answered(failed_by(alloc, kind, api, &facts)?)))
+    let made = failed_by(alloc, kind, api, &facts)?;
+    Ok(Course::Free(Way::Goes(Plan::Answered(made))))
 }

@@ -1,4 +1,5 @@
 // What a request comes to.
+use crate::authorizing::Authorizing;
 use crate::calls::RoutedCall;
 use crate::keys::Keyed;
 use backend_core::WireRequest;
@@ -24,11 +25,20 @@ pub enum Plan<'a> {
     Asks(Exchange<'a>),
 }
 
-/// What a request comes to.
+/// What a call comes to that no authorizer keeps back.
 #[derive(Drop)]
 pub enum Way<'a> {
     /// This, whoever calls.
     Goes(Plan<'a>),
     /// What its admission leads to.
     Admits(Keyed<'a>),
+}
+
+/// What a request comes to.
+#[derive(Drop)]
+pub enum Course<'a> {
+    /// This, whatever an authorizer gives.
+    Free(Way<'a>),
+    /// What the policy of its authorizer leads to, or the want of one.
+    Consults(Authorizing<'a>),
 }

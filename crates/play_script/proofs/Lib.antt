@@ -2,5 +2,3 @@
 pub mod Playing
 -- the first line of a text
 pub mod Lines
--- a test of the elements of a list
-pub mod Unbuilt

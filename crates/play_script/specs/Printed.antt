@@ -5,9 +5,9 @@ use Rattle.std.specs.List.{concat}
 use Rattle.admin_routes.specs.Asked.{fault_line}
 use Rattle.book_rules.specs.Printed.{refusal_name, usage_text}
 use Rattle.book_rules.specs.declared.replies.Reply.{Reply}
-use Rattle.book_rules.specs.declared.replies.Reply.TheVariants.{Entered, NoStage, Admitted, InvalidKey, Throttled, QuotaExceeded, Store, Left, Done, Deployed, Usage, Refused}
+use Rattle.book_rules.specs.declared.replies.Reply.TheVariants.{Entered, NoStage, Remembered, NotRemembered, Learned, Admitted, InvalidKey, Throttled, QuotaExceeded, Store, Left, Done, Deployed, Usage, Refused}
 use Rattle.play_script.specs.declared.records.LineFault.{LineFault}
-use Rattle.play_script.specs.declared.records.LineFault.TheVariants.{BadRecord, NotBuilt, Definition}
+use Rattle.play_script.specs.declared.records.LineFault.TheVariants.{BadRecord, Definition}
 use Rattle.gate_walk.specs.declared.ended.SessionFull.{SessionFull}
 
 abbrev pub line_feed : List ℕ
@@ -22,6 +22,9 @@ reply_line (Refused refusal) = concat (codes "refused " ∷ refusal_name refusal
 reply_line Store = concat (codes "store" ∷ line_feed ∷ [])
 reply_line NoStage = []
 reply_line (Entered view) = []
+reply_line (Remembered policy) = []
+reply_line NotRemembered = []
+reply_line Learned = []
 reply_line (Admitted key plan) = []
 reply_line InvalidKey = []
 reply_line (Throttled level) = []
@@ -31,7 +34,6 @@ reply_line (Left closing) = []
 -- a line's fault and its place; an empty place is `~`
 abbrev pub line_fault : LineFault → List ℕ
 line_fault BadRecord = codes "BadRecord at ~"
-line_fault NotBuilt = codes "NotBuilt at ~"
 line_fault (Definition fault) = fault_line fault
 
 -- the line that ends a play at a line of this number

@@ -11,7 +11,7 @@ use Rattle.record_fields.specs.Pairs.{pairs_of}
 use Rattle.play_script.specs.declared.records.Record.{Record}
 use Rattle.play_script.specs.declared.records.Record.TheVariants.{PutText, PutDocument, Ask, Post, Call}
 use Rattle.play_script.specs.declared.records.LineFault.{LineFault}
-use Rattle.play_script.specs.declared.records.LineFault.TheVariants.{BadRecord, NotBuilt}
+use Rattle.play_script.specs.declared.records.LineFault.TheVariants.{BadRecord}
 
 -- a record, or why the line has none
 abbrev pub Reading : Type 0
@@ -68,6 +68,13 @@ promote_record m a s = do
   api ← text_of a
   stage ← text_of s
   Ok (Ask moment (command.PromoteCanary api stage))
+
+unfoldable pub flush_record : List ℕ → List ℕ → List ℕ → Reading
+flush_record m a s = do
+  moment ← number_of 64 m
+  api ← text_of a
+  stage ← text_of s
+  Ok (Ask moment (command.Flush api stage))
 
 -- whether a key is enabled
 unfoldable pub is_on : List ℕ → Option Bool
@@ -161,6 +168,10 @@ abbrev pub promote_fields : List (List ℕ) → Reading
 promote_fields (m ∷ a ∷ s ∷ []) = promote_record m a s
 promote_fields fields = Err BadRecord
 
+abbrev pub flush_fields : List (List ℕ) → Reading
+flush_fields (m ∷ a ∷ s ∷ []) = flush_record m a s
+flush_fields fields = Err BadRecord
+
 abbrev pub key_fields : List (List ℕ) → Reading
 key_fields (m ∷ k ∷ v ∷ e ∷ []) = key_record m k v e
 key_fields fields = Err BadRecord
@@ -193,7 +204,7 @@ abbrev pub call_fields : List (List ℕ) → Reading
 call_fields (m ∷ w ∷ bytes ∷ outcomes) = call_record m w bytes outcomes
 call_fields fields = Err BadRecord
 
--- the records of keys and plans; a `flush` is held back
+-- the records of keys and plans
 unfoldable pub record_of_plans : List ℕ → List (List ℕ) → Reading
 record_of_plans name fields =
     if bytes_eq name (codes "key") then key_fields fields
@@ -201,7 +212,6 @@ record_of_plans name fields =
     else if bytes_eq name (codes "join") then join_fields fields
     else if bytes_eq name (codes "grant") then grant_fields fields
     else if bytes_eq name (codes "usage") then usage_fields fields
-    else if bytes_eq name (codes "flush") then Err NotBuilt
     else Err BadRecord
 
 -- those of stages before them
@@ -211,6 +221,7 @@ record_of_stages name fields =
     else if bytes_eq name (codes "stage") then stage_fields fields
     else if bytes_eq name (codes "canary") then canary_fields fields
     else if bytes_eq name (codes "promote") then promote_fields fields
+    else if bytes_eq name (codes "flush") then flush_fields fields
     else if bytes_eq name (codes "shutdown") then shutdown_fields fields
     else record_of_plans name fields
 

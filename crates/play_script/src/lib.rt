@@ -24,15 +24,14 @@
 //! | `plan 0 p 5:10 1000:0:DAY hello/v1` | `done`: a plan of one stage, 5 a second and 10 at once, 1,000 a day |
 //! | `plan 0 p - - hello` | `refused line 1 BadRecord at ~`: a stage has its API before a slash |
 //! | `grant 0 p k 2`, `usage 0 p k` | `done`, and `usage period=DAY:0 allowance=1002 used=0 remaining=1002` |
-//! | `flush 0 hello v1` | `refused line 1 NotBuilt at ~`, and the play ends with status 1 |
+//! | `flush 0 hello v1` | `done`: the policies that are remembered at the stage are forgotten; or `refused NoStage` |
 //! | `stage 0 hello v1 1 env=x` | `done`, and `$stageVariables.env` is `x` in the answers of the stage |
 //!
 //! What is promised: what is written is `Plays` of `specs/Play.antt` to the byte, a definition that speaks of every script,
 //! or a front of it where a write is refused or memory is wanting; where the script's `keepfails` names the load, nothing is, and
 //! just that is told (`opening_of`, `names_load`); `specs/Coding.antt` says which lines it has,
 //! `specs/Records.antt` which records they are, and `specs/Printed.antt` and `specs/Calls.antt` what is printed.
-//! A definition is put where it is stated and all of it is built, which says `taken` of `specs/Definitions.antt`: a document with a
-//! method that has an authorizer is `NotBuilt` ([`needs_unbuilt`] is exactly that). [`join`] puts parts of a line together. Fields are coded and read by `record_fields`. The lines of a script, their records and
+//! A definition is put where it is stated, which says `taken` of `specs/Definitions.antt`. [`join`] puts parts of a line together. Fields are coded and read by `record_fields`. The lines of a script, their records and
 //! what is printed of a command stand apart ([`first_line`], [`record_in`], [`take_document`], [`take_text`], [`reply_line`], [`refuse`]): the command `admin` takes
 //! them too; and so does a line by itself ([`play_line`]), of which the command `load` makes up many.
 #![tactic(auto)]
@@ -54,7 +53,7 @@ mod stops;
 mod turns;
 
 pub use calls::{play_line, refuse};
-pub use definitions::{needs_unbuilt, take_document, take_text};
+pub use definitions::{take_document, take_text};
 pub use fields::{first_line, is_passed_over};
 pub use joining::join;
 pub use play::play_within;

@@ -212,7 +212,7 @@ fn usage_fields(alloc: Global, fields: &[Bytes]) -> Result<Reading, Memory>
     }
 }
 
-/// The record of this name, where it is one of a key or a plan. A `flush` is not built.
+/// The record of this name, where it is one of a key or a plan.
 #[tactic(auto, unfolding(crate::specs::Records::record_of_plans))]
 pub fn record_of_plans(alloc: Global, name: &[u8], fields: &[Bytes]) -> Result<Reading, Memory>
     ensures { IfOk result (λ r. r ≡ record_of_plans_by name.now fields.now) }
@@ -231,9 +231,6 @@ pub fn record_of_plans(alloc: Global, name: &[u8], fields: &[Bytes]) -> Result<R
     }
     if name == b"usage".as_slice() {
         return usage_fields(alloc, fields);
-    }
-    if name == b"flush".as_slice() {
-        return Ok(Err(LineFault::NotBuilt));
     }
     Ok(Err(LineFault::BadRecord))
 }

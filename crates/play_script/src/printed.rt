@@ -34,6 +34,9 @@ pub fn reply_line(alloc: Global, reply: &Reply) -> Result<Text, Memory>
         // To an event that is no command.
         Reply::NoStage
         | Reply::Entered(_)
+        | Reply::Remembered(_)
+        | Reply::NotRemembered
+        | Reply::Learned
         | Reply::Admitted { .. }
         | Reply::InvalidKey
         | Reply::Throttled { .. }
@@ -58,7 +61,6 @@ fn line_fault(alloc: Global, fault: LineFault) -> Result<Text, Memory>
 {
     match fault {
         LineFault::BadRecord => Ok(Text::of(String::from_str(alloc, "BadRecord at ~")?)),
-        LineFault::NotBuilt => Ok(Text::of(String::from_str(alloc, "NotBuilt at ~")?)),
         LineFault::Definition(fault) => fault_line(alloc, &fault),
     }
 }

@@ -17,7 +17,7 @@ pub enum Record {
         api: Text,
         document: Text,
     },
-    /// A command that has no definition: `deploy`, `stage`, `canary`, `promote`, `key`, `plan`, `join`, `grant`, `usage` or `shutdown`.
+    /// A command that has no definition: `deploy`, `stage`, `canary`, `promote`, `flush`, `key`, `plan`, `join`, `grant`, `usage` or `shutdown`.
     Ask {
         moment: u64,
         command: Command,
@@ -44,8 +44,6 @@ pub enum Record {
 pub enum LineFault {
     /// The line breaks the form of its record.
     BadRecord,
-    /// The record, or a part of its definition, is not built.
-    NotBuilt,
     /// The definition, which a template is too, is not stated.
     Definition(ApiFault),
 }

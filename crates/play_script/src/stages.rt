@@ -1,6 +1,6 @@
 // The records of deployments, stages and their canaries.
 ghost use Rattle.std.specs.Prelude.{◌≡◌, Ok, Err, IfOk};
-ghost use Rattle.play_script.specs.Records.{deploy_record as deploy_record_of, stage_record as stage_record_of, canary_record as canary_record_of, promote_record as promote_record_of, shutdown_record as shutdown_record_of, deploy_fields as deploy_fields_of, stage_fields as stage_fields_of, canary_fields as canary_fields_of, promote_fields as promote_fields_of, shutdown_fields as shutdown_fields_of, record_of_stages as record_of_stages_by};
+ghost use Rattle.play_script.specs.Records.{deploy_record as deploy_record_of, stage_record as stage_record_of, canary_record as canary_record_of, promote_record as promote_record_of, flush_record as flush_record_of, shutdown_record as shutdown_record_of, deploy_fields as deploy_fields_of, stage_fields as stage_fields_of, canary_fields as canary_fields_of, promote_fields as promote_fields_of, flush_fields as flush_fields_of, shutdown_fields as shutdown_fields_of, record_of_stages as record_of_stages_by};
 
 use crate::plans::record_of_plans;
 use crate::records::{LineFault, Reading, Record};
@@ -125,6 +125,23 @@ fn promote_record(alloc: Global, moment: &[u8], api: &[u8], stage: &[u8]) -> Res
     Ok(Ok(Record::Ask { moment, command }))
 }
 
+#[tactic(auto, unfolding(crate::specs::Records::flush_record))]
+fn flush_record(alloc: Global, moment: &[u8], api: &[u8], stage: &[u8]) -> Result<Reading, Memory>
+    ensures { IfOk result (λ r. r ≡ flush_record_of moment.now api.now stage.now) }
+{
+    let Some(moment) = number(moment) else {
+        return Ok(Err(LineFault::BadRecord));
+    };
+    let Some(api) = text_of(alloc, api)? else {
+        return Ok(Err(LineFault::BadRecord));
+    };
+    let Some(stage) = text_of(alloc, stage)? else {
+        return Ok(Err(LineFault::BadRecord));
+    };
+    let command = Command::Flush { api, stage };
+    Ok(Ok(Record::Ask { moment, command }))
+}
+
 #[tactic(auto, unfolding(crate::specs::Records::shutdown_record))]
 fn shutdown_record(moment: &[u8]) -> Reading
     ensures { result ≡ shutdown_record_of moment.now }
@@ -187,6 +204,15 @@ fn promote_fields(alloc: Global, fields: &[Bytes]) -> Result<Reading, Memory>
     }
 }
 
+fn flush_fields(alloc: Global, fields: &[Bytes]) -> Result<Reading, Memory>
+    ensures { IfOk result (λ r. r ≡ flush_fields_of fields.now) }
+{
+    match fields {
+        [m, a, s] => flush_record(alloc, m.as_slice(), a.as_slice(), s.as_slice()),
+        _ => Ok(Err(LineFault::BadRecord)),
+    }
+}
+
 fn shutdown_fields(fields: &[Bytes]) -> Reading
     ensures { result ≡ shutdown_fields_of fields.now }
 {
@@ -212,6 +238,9 @@ pub fn record_of_stages(alloc: Global, name: &[u8], fields: &[Bytes]) -> Result<
     }
     if name == b"promote".as_slice() {
         return promote_fields(alloc, fields);
+    }
+    if name == b"flush".as_slice() {
+        return flush_fields(alloc, fields);
     }
     if name == b"shutdown".as_slice() {
         return Ok(shutdown_fields(fields));

@@ -17,10 +17,10 @@ use Rattle.book_rules.specs.Outcomes.{Outcome, first_refusal, unless}
 use Rattle.book_rules.specs.StageCommands.{put_canary_tests, put_stage_tests}
 use Rattle.book_rules.specs.Views.{Staged, command_of, kept_command, merged_of, no_variables, promoted_of, stage_after, stage_by, staged_with, with_canary_of}
 use Rattle.book_rules.specs.declared.events.Command.{Command}
-use Rattle.book_rules.specs.declared.events.Command.TheVariants.{PutApi, Deploy, PutStage, PutCanary, PromoteCanary, PutKey, PutPlan, JoinKey, Grant, Usage, Shutdown}
+use Rattle.book_rules.specs.declared.events.Command.TheVariants.{PutApi, Deploy, PutStage, PutCanary, PromoteCanary, PutKey, PutPlan, JoinKey, Grant, Flush, Usage, Shutdown}
 use Rattle.book_rules.specs.declared.events.Entry.{Entry}
 use Rattle.book_rules.specs.declared.events.Event.{Event}
-use Rattle.book_rules.specs.declared.events.Event.TheVariants.{Enter, Admit, Admin, Leave}
+use Rattle.book_rules.specs.declared.events.Event.TheVariants.{Enter, Recall, Learn, Admit, Admin, Leave}
 use Rattle.book_rules.specs.declared.replies.Refusal.{Refusal}
 use Rattle.book_rules.specs.declared.replies.Refusal.TheVariants.{BadName, NoDeployment, NoStage, BadShare, Full}
 use Rattle.promoted_stages.specs.Laws.{HasVariables, StagesHaveVariables}
@@ -82,11 +82,14 @@ command_brings lists t (PutPlan plan throttle quota stages) kept =
     either (is_some (commanded lists t (PutPlan plan throttle quota stages)).row && kept) (PutPlan plan throttle quota stages) tt
 command_brings lists t (JoinKey plan key) kept = either (is_some (commanded lists t (JoinKey plan key)).row && kept) (JoinKey plan key) tt
 command_brings lists t (Grant plan key amount) kept = either (is_some (commanded lists t (Grant plan key amount)).row && kept) (Grant plan key amount) tt
+command_brings lists t (Flush api stage) kept = either (is_some (commanded lists t (Flush api stage)).row && kept) (Flush api stage) tt
 command_brings lists t (Usage plan key) kept = either (is_some (commanded lists t (Usage plan key)).row && kept) (Usage plan key) tt
 command_brings lists t Shutdown kept = tt
 
 event_brings : (s : State) (event : Event) (kept : Bool) → BringsVariables (cond (is_some (row_of s event) && kept) (command_of event) None)
 event_brings s (Enter moment word api stage) kept = tt
+event_brings s (Recall moment name) kept = tt
+event_brings s (Learn moment name policy ttl) kept = tt
 event_brings s (Admit moment api stage value) kept = none_either (is_some (row_of s (Admit moment api stage value)) && kept)
 event_brings s (Admin moment command) kept = command_brings s.lists (time_of s moment) command kept
 event_brings s (Leave status cause) kept = tt

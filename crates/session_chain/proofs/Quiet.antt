@@ -6,7 +6,7 @@ use Rattle.book_rules.proofs.Histories.{state_after-more, state_after-nil}
 use Rattle.book_rules.specs.History.{Base, Answers, state_after}
 use Rattle.book_rules.specs.declared.events.Entry.{Entry}
 use Rattle.book_rules.specs.declared.events.Event.{Event}
-use Rattle.book_rules.specs.declared.events.Event.TheVariants.{Enter, Admit, Admin, Leave}
+use Rattle.book_rules.specs.declared.events.Event.TheVariants.{Enter, Recall, Learn, Admit, Admin, Leave}
 use Rattle.book_rules.specs.declared.replies.Reply.{Reply}
 use Rattle.gate_session.specs.Posts.{IsOpen}
 use Rattle.gate_session.specs.Sessions.{LanesDid}
@@ -48,6 +48,8 @@ still_open opening history none = open_behind opening [] history (ap (λ s. s.cl
 leaves_open : (base : Base) (here : List Entry) (n : ℕ) (event : Event) (kept : Bool) (answer : Reply) → Answers base here (entry_of n event kept) answer → (state_after base.opening here).closing ≡ false
     → leaves_closing event answer ≡ false
 leaves_open base here n (Enter moment word api stage) kept answer a stands = refl
+leaves_open base here n (Recall moment name) kept answer a stands = refl
+leaves_open base here n (Learn moment name policy ttl) kept answer a stands = refl
 leaves_open base here n (Admit moment api stage value) kept answer a stands = refl
 leaves_open base here n (Admin moment command) kept answer a stands = refl
 leaves_open base here n (Leave status cause) kept answer a stands = ap closing_by a.reply ∙ stands

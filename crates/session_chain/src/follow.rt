@@ -32,7 +32,11 @@ fn shuts(event: &Event) -> bool
 {
     match event {
         Event::Admin { command, .. } => matches!(command, Command::Shutdown),
-        Event::Enter { .. } | Event::Admit { .. } | Event::Leave { .. } => false,
+        Event::Enter { .. }
+        | Event::Recall { .. }
+        | Event::Learn { .. }
+        | Event::Admit { .. }
+        | Event::Leave { .. } => false,
     }
 }
 

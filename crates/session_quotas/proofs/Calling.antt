@@ -30,7 +30,7 @@ use Rattle.book_rules.specs.PlanCommands.{key_with}
 use Rattle.book_rules.specs.PlanStages.{same_stage, stages_of}
 use Rattle.book_rules.specs.declared.events.Entry.{Entry}
 use Rattle.book_rules.specs.declared.events.Event.{Event}
-use Rattle.book_rules.specs.declared.events.Event.TheVariants.{Enter, Admit, Admin, Leave}
+use Rattle.book_rules.specs.declared.events.Event.TheVariants.{Enter, Recall, Learn, Admit, Admin, Leave}
 use Rattle.book_rules.specs.declared.replies.Reply.{Reply}
 use Rattle.book_rules.specs.declared.replies.Reply.TheVariants.{InvalidKey, Throttled, QuotaExceeded}
 use Rattle.book_ledgers.specs.Ledgers.{RowsFollowTheirLedgers, account_of, asks_by, is_named}
@@ -180,6 +180,8 @@ event_exact : RowsFollowTheirLedgers → LevelsAreLeast → CountsAreConserved �
     → (opening : Lists) (earlier : List Entry) (event : Event) (kept : Bool) (answer : Reply) → bad_row opening ≡ None
     → answer ≡ reply opening earlier event kept → IsExactFor opening earlier event kept answer
 event_exact follow levels conserved within early opening earlier (Enter moment word api stage) kept answer good e = tt
+event_exact follow levels conserved within early opening earlier (Recall moment name) kept answer good e = tt
+event_exact follow levels conserved within early opening earlier (Learn moment name policy ttl) kept answer good e = tt
 event_exact follow levels conserved within early opening earlier (Admit moment api stage value) kept answer good e =
     admit_exact follow levels conserved within early opening earlier (api, stage) value moment kept answer good e
 event_exact follow levels conserved within early opening earlier (Admin moment command) kept answer good e = tt

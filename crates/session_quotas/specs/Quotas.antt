@@ -13,7 +13,7 @@ use Rattle.book_rules.specs.PlanCommands.{key_with, usage_shown}
 use Rattle.book_rules.specs.declared.events.Command.TheVariants.{Usage}
 use Rattle.book_rules.specs.declared.events.Entry.{Entry}
 use Rattle.book_rules.specs.declared.events.Event.{Event}
-use Rattle.book_rules.specs.declared.events.Event.TheVariants.{Enter, Admit, Admin, Leave}
+use Rattle.book_rules.specs.declared.events.Event.TheVariants.{Enter, Recall, Learn, Admit, Admin, Leave}
 use Rattle.book_rules.specs.declared.replies.Reply.{Reply}
 use Rattle.book_rules.specs.declared.replies.Reply.TheVariants.{Admitted, InvalidKey, QuotaExceeded, Store, Throttled}
 use Rattle.book_ledgers.specs.Laws.{IsHeld, IsLedger, IsNow}
@@ -84,6 +84,8 @@ pub record IsExact (opening : Lists) (earlier : List Entry) (stage : List ℕ ×
 -- an event that asks for an admission has such a reply, at the moment at which it happens
 abbrev pub IsExactFor : Lists → List Entry → Event → Bool → Reply → Type 0
 IsExactFor opening earlier (Enter moment word api stage) kept answer = ⊤
+IsExactFor opening earlier (Recall moment name) kept answer = ⊤
+IsExactFor opening earlier (Learn moment name policy ttl) kept answer = ⊤
 IsExactFor opening earlier (Admit moment api stage value) kept answer = IsExact opening earlier (api, stage) value (time_of (state_after opening earlier) moment) kept answer
 IsExactFor opening earlier (Admin moment command) kept answer = ⊤
 IsExactFor opening earlier (Leave status cause) kept answer = ⊤

@@ -15,7 +15,7 @@ pub(crate) const LIMITS: Limits = Limits {
 
 /// An event of the tests: about the API `a` and its stage `s`, which points to deployment 1.
 #[derive(Clone, Copy)]
-enum Step {
+pub(crate) enum Step {
     Put,
     Deploy,
     Stage,
@@ -91,7 +91,8 @@ fn ask(command: Result<Command, Memory>) -> Result<Event, Memory> {
     })
 }
 
-fn event(alloc: Global, step: Step) -> Result<Event, Memory> {
+/// The event of a step.
+pub(crate) fn event(alloc: Global, step: Step) -> Result<Event, Memory> {
     match step {
         Step::Put => ask(put(alloc)),
         Step::Deploy => ask(deploy(alloc)),
@@ -105,11 +106,14 @@ fn event(alloc: Global, step: Step) -> Result<Event, Memory> {
     }
 }
 
-// What an event is replied, in a word.
-fn word(reply: &Reply) -> &'static str {
+/// What an event is replied, in a word.
+pub(crate) fn word(reply: &Reply) -> &'static str {
     match reply {
         Reply::Entered(_) => "entered ",
         Reply::NoStage => "nostage ",
+        Reply::Remembered(_) => "remembered ",
+        Reply::NotRemembered => "not ",
+        Reply::Learned => "learned ",
         Reply::Admitted { .. } => "admitted ",
         Reply::InvalidKey => "invalid ",
         Reply::Throttled { .. } => "throttled ",

@@ -45,7 +45,7 @@ const ROWS: [(&str, &str, u8); 23] = [
         "refused line 1 Unclosed(0) at /resources/~1a/GET/integration/templates/application~1json\n",
         1,
     ),
-    // Methods with an authorizer are not built; an authorizer that none has is no matter, and a method may ask for a key.
+    // A method may have an authorizer, and ask for a key; an authorizer that no method has is no matter.
     (
         "api 0 a {\"version\":1,\"resources\":{\"/a\":{\"GET\":{\"apiKeyRequired\":false,\"integration\":{\"type\":\"MOCK\"}}}}}\n",
         "done\n",
@@ -63,15 +63,15 @@ const ROWS: [(&str, &str, u8); 23] = [
     ),
     (
         "api 0 a {\"version\":1,\"authorizers\":{\"t\":{\"header\":\"h\",\"uri\":\"http://localhost:1/\"}},\"resources\":{\"/a\":{\"GET\":{\"authorizer\":\"t\",\"integration\":{\"type\":\"MOCK\"}}}}}\n",
-        "refused line 1 NotBuilt at ~\n",
-        1,
+        "done\n",
+        0,
     ),
     (
         "api 0 a {\"version\":1,\"authorizers\":{\"t\":{\"header\":\"h\",\"uri\":\"http://localhost:1/\"}},\"resources\":{\"/a\":{\"GET\":{\"integration\":{\"type\":\"MOCK\"}},\"PUT\":{\"integration\":{\"type\":\"MOCK\"}}},\"/b\":{\"ANY\":{\"authorizer\":\"t\",\"integration\":{\"type\":\"MOCK\"}}}}}\n",
-        "refused line 1 NotBuilt at ~\n",
-        1,
+        "done\n",
+        0,
     ),
-    // A fault comes before what is not built.
+    // But its authorizer is one that the document has.
     (
         "api 0 a {\"version\":1,\"resources\":{\"/a\":{\"GET\":{\"apiKeyRequired\":true,\"authorizer\":\"t\",\"integration\":{\"type\":\"MOCK\"}}}}}\n",
         "refused line 1 NoSuch(t) at /resources/~1a/GET/authorizer\n",

@@ -76,7 +76,7 @@ struct Row {
     status: u8,
 }
 
-const ROWS: [Row; 26] = [
+const ROWS: [Row; 27] = [
     Row {
         script: "",
         said: "",
@@ -94,7 +94,12 @@ const ROWS: [Row; 26] = [
     },
     Row {
         script: "flush 0 hello v1\n",
-        said: "refused line 1 NotBuilt at ~\n",
+        said: "refused NoStage\n",
+        status: 0,
+    },
+    Row {
+        script: "text 0 a x\ndeploy 0 a\nstage 0 a s 1\nflush 0 a s\nflush 0 a t\nflush 0 a\n",
+        said: "done\ndeployed 1\ndone\ndone\nrefused NoStage\nrefused line 6 BadRecord at ~\n",
         status: 1,
     },
     Row {

@@ -4,7 +4,7 @@ use api_model::Api;
 use call_facts::{Answer, CallFacts, Kind, Vars};
 use gateway_answers::gateway_answer;
 use gw_base::{Memory, Seq, Shared, Text};
-use method_answers::{Plan, Way, plan_method};
+use method_answers::{Course, Plan, Way, plan_method};
 use std::alloc::Global;
 use std::process::Abort;
 use std::test::Fail;
@@ -188,8 +188,8 @@ fn answered(alloc: Global, api: &Api, call: &Call) -> Result<String, Memory> {
         return Err(Memory);
     }
     match plan_method(alloc, api, &call.request, &call.target, facts)? {
-        Way::Goes(plan) => plan_told(alloc, &plan),
-        Way::Admits(_) => Err(Memory),
+        Course::Free(Way::Goes(plan)) => plan_told(alloc, &plan),
+        Course::Free(Way::Admits(_)) | Course::Consults(_) => Err(Memory),
     }
 }
 

@@ -4,7 +4,7 @@ use crate::calls::{Call, Field, definition, make_call};
 use api_model::Api;
 use call_facts::Kind;
 use gw_base::{Memory, Name};
-use method_answers::{Admission, Way, plan_method};
+use method_answers::{Admission, Course, Way, plan_method};
 use std::alloc::Global;
 use std::test::Fail;
 
@@ -103,7 +103,10 @@ fn way<'a>(alloc: Global, api: &'a Api, call: &'a Call) -> Result<Way<'a>, Memor
     if facts.at >= 4_102_444_800_000 {
         return Err(Memory);
     }
-    plan_method(alloc, api, &call.request, &call.target, facts)
+    match plan_method(alloc, api, &call.request, &call.target, facts)? {
+        Course::Free(way) => Ok(way),
+        Course::Consults(_) => Err(Memory),
+    }
 }
 
 fn admitted(alloc: Global, api: &Api, call: &Call, held: Held) -> Result<String, Memory> {

@@ -13,6 +13,7 @@
 //! | `validation.rt` | calls, with the message that tells what they fail by |
 //! | `media.rt` | content types, with their media type |
 //! | `keys.rt` | calls of methods that ask for a key, with the stage and the value that are asked by, and what each admission leads to |
+//! | `authorizers.rt` | calls of methods that have an authorizer, with what is asked to the byte, and what each policy leads to |
 //! | `answers.rt` | calls that fail, with the answer to the byte, where the API has rules and where it has none |
 //!
 //! Nothing is promised here: `method_checks`, `gateway_answers` and `method_answers` say what their calls answer, and this
@@ -21,6 +22,8 @@
 
 #[cfg(test)]
 mod answers;
+#[cfg(test)]
+mod authorizers;
 #[cfg(test)]
 mod calls;
 #[cfg(test)]

@@ -3,7 +3,7 @@ use crate::played::administer;
 use std::test::Fail;
 
 /// Lines, and what they print.
-const ROWS: [(&str, &str, u8); 3] = [
+const ROWS: [(&str, &str, u8); 4] = [
     (
         "key 0 k1 abc on\nkey 0 k2 abc on\n",
         "done\nrefused ValueTaken\n",
@@ -16,7 +16,12 @@ const ROWS: [(&str, &str, u8); 3] = [
     ),
     (
         "promote 0 a s\nflush 0 a s\n",
-        "refused NoStage\nrefused line 2 NotBuilt at ~\n",
+        "refused NoStage\nrefused NoStage\n",
+        0,
+    ),
+    (
+        "text 0 a x\ndeploy 0 a\nstage 0 a s 1\nflush 0 a s\nflush 0 a\n",
+        "done\ndeployed 1\ndone\ndone\nrefused line 5 BadRecord at ~\n",
         1,
     ),
 ];

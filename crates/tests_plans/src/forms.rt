@@ -11,6 +11,11 @@ const LINES: &[&str] = &[
     "promote 0 a",
     "promote 0 a s s",
     "promote x a s",
+    "flush",
+    "flush 0 a",
+    "flush 0 a s s",
+    "flush x a s",
+    "flush 0 a %FF",
     "key 0 k v",
     "key 0 k v On",
     "key 0 k v ~",
@@ -49,18 +54,6 @@ fn a_record_has_its_form(rt: HostRuntime) -> Result<(), Fail> {
             b"refused line 1 BadRecord at ~\n".as_slice(),
             "at {line}"
         );
-        assert_eq!(rt; status, 1);
-    }
-    Ok(())
-}
-
-// What remembers policies is not built, whatever its form.
-#[test]
-fn a_flush_is_not_built(rt: HostRuntime) -> Result<(), Fail> {
-    let alloc = rt.alloc();
-    for line in ["flush 0 a s", "flush"] {
-        let (status, said) = play(&rt, alloc, line)?;
-        assert_eq!(rt; said.bytes(), b"refused line 1 NotBuilt at ~\n".as_slice());
         assert_eq!(rt; status, 1);
     }
     Ok(())

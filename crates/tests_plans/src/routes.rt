@@ -23,7 +23,7 @@ const NO_RECORD: &str = "{\"refused\":\"BadRecord\"}";
 
 const NO_ROUTE: &str = "{\"refused\":\"NoRoute\"}";
 
-const ROWS: [Row; 27] = [
+const ROWS: [Row; 30] = [
     (
         "PUT",
         "apis/a/stages/s/canary",
@@ -66,6 +66,21 @@ const ROWS: [Row; 27] = [
         "",
         "409 Conflict",
         "{\"reply\":\"refused NoCanary\"}",
+    ),
+    ("POST", "apis/a/stages/s/flush", "ignored", "200 OK", DONE),
+    (
+        "POST",
+        "apis/a/stages/none/flush",
+        "",
+        "409 Conflict",
+        "{\"reply\":\"refused NoStage\"}",
+    ),
+    (
+        "PUT",
+        "apis/a/stages/s/flush",
+        "",
+        "404 Not Found",
+        NO_ROUTE,
     ),
     ("PUT", "keys/k1", "kk on", "200 OK", DONE),
     (

@@ -250,6 +250,8 @@ fn word(event: &Event) -> &'static str {
     match event {
         Event::Admin { .. } => "",
         Event::Enter { .. } => "enter ",
+        Event::Recall { .. } => "recall ",
+        Event::Learn { .. } => "learn ",
         Event::Admit { .. } => "admit ",
         Event::Leave { .. } => "leave ",
     }

@@ -68,8 +68,13 @@ const ROWS: &'static [Row] = &[
         ..DONE
     },
     Row {
-        lines: "api 0 pets {\"version\":1,\"authorizers\":{\"t\":{\"header\":\"h\",\"uri\":\"http://localhost:1/\"}},\"resources\":{\"/\":{\"GET\":{\"authorizer\":\"t\",\"integration\":{\"type\":\"MOCK\"}}}}}\ndeploy 0 hello\n",
-        said: "refused line 1 NotBuilt at ~\n",
+        lines: "api 0 pets {\"version\":1,\"authorizers\":{\"t\":{\"header\":\"h\",\"uri\":\"http://localhost:1/\"}},\"resources\":{\"/\":{\"GET\":{\"authorizer\":\"t\",\"integration\":{\"type\":\"MOCK\"}}}}}\ndeploy 0 pets\n",
+        said: "done\ndeployed 1\n",
+        ..DONE
+    },
+    Row {
+        lines: "flush 0 hello v2\nflush 0 hello v1\nflush 0 hello\n",
+        said: "refused NoStage\ndone\nrefused line 3 BadRecord at ~\n",
         status: 1,
         ..DONE
     },

@@ -7,13 +7,14 @@ use std::test::Fail;
 /// A path, and what it is.
 type Asked = (&'static str, &'static str);
 
-const PATHS: [Asked; 58] = [
+const PATHS: [Asked; 61] = [
     ("apis/hello", "document hello"),
     ("apis/hello/text", "template hello"),
     ("apis/hello/deployments", "deployments hello"),
     ("apis/hello/stages/test", "stage hello test"),
     ("apis/hello/stages/test/canary", "canary hello test"),
     ("apis/hello/stages/test/promote", "promote hello test"),
+    ("apis/hello/stages/test/flush", "flush hello test"),
     ("keys/ann", "key ann"),
     ("plans/basic", "plan basic"),
     ("plans/basic/keys/ann", "plan key basic ann"),
@@ -33,6 +34,7 @@ const PATHS: [Asked; 58] = [
     ("plans/keys/keys/grant", "plan key keys grant"),
     ("plans/grant/keys/usage/usage", "usage grant usage"),
     ("apis/stages/stages/canary/canary", "canary stages canary"),
+    ("apis/stages/stages/flush/flush", "flush stages flush"),
     // A segment more or less, or one without a byte.
     ("", "none"),
     ("/", "none"),
@@ -67,6 +69,7 @@ const PATHS: [Asked; 58] = [
     ("keys/ann/keys/ann", "none"),
     ("apis/hello/stages/test/grant", "none"),
     ("plans/basic/keys/ann/canary", "none"),
+    ("plans/basic/keys/ann/flush", "none"),
     ("key/ann", "none"),
     ("shutdow", "none"),
 ];
@@ -84,6 +87,9 @@ fn told(alloc: Global, path: &AdminPath) -> Result<String, Memory> {
         }
         AdminPath::Promote { api, stage } => {
             format!(in alloc; "promote {} {}", api.as_str(), stage.as_str())?
+        }
+        AdminPath::Flush { api, stage } => {
+            format!(in alloc; "flush {} {}", api.as_str(), stage.as_str())?
         }
         AdminPath::Key { key } => format!(in alloc; "key {}", key.as_str())?,
         AdminPath::Plan { plan } => format!(in alloc; "plan {}", plan.as_str())?,

@@ -1,7 +1,7 @@
 use Rattle.std.proofs.Common.{rules, ◌≡◌, ℕ, true, None, Some, OnErr, sym, subst, ◌∙◌, ap}
 use Rattle.std.specs.Option.{option_map}
 use Rattle.keeper_core.specs.Lists.{stage_row, deployment_row}
-use Rattle.book_rules.specs.Machine.{is_entered}
+use Rattle.book_rules.specs.Machine.{is_shared}
 use Rattle.book_rules.specs.Stored.{deployed_of}
 use Rattle.book_opening.specs.Ready.{standing_of}
 use Rattle.book_core.specs.Standing.{is_taken_to, number_to, variables_to}
@@ -28,7 +28,7 @@ returns-in_err-share-clause-memory c =
     let at_chosen : d ≡ option_map deployed_of (deployment_row lists c.args.api.now c.choose-chosen.result.deployment) = search rules in
     let points = at_chosen ∙ ap (λ n. option_map deployed_of (deployment_row lists c.args.api.now n)) c.choose-chosen.ensures.deployment in
     let is = entered_at lists e.place e.at e.word c.args.api.now c.args.stage.now x d same points in
-    subst (λ v. OnErr c.from_residual.result (is_entered v ≡ true)) (sym is) (search rules)
+    subst (λ v. OnErr c.from_residual.result (is_shared v ≡ true)) (sym is) (search rules)
 
 pub returns-in_err-share-2-clause-memory : goal.returns-in_err-share-2-clause-memory
 returns-in_err-share-2-clause-memory c =
@@ -40,7 +40,7 @@ returns-in_err-share-2-clause-memory c =
     let at_chosen : d ≡ option_map deployed_of (deployment_row lists c.args.api.now c.choose-chosen.result.deployment) = search rules in
     let points = at_chosen ∙ ap (λ n. option_map deployed_of (deployment_row lists c.args.api.now n)) c.choose-chosen.ensures.deployment in
     let is = entered_at lists e.place e.at e.word c.args.api.now c.args.stage.now x d same points in
-    subst (λ v. OnErr c.from_residual-in_err-share-2.result (is_entered v ≡ true)) (sym is) (search rules)
+    subst (λ v. OnErr c.from_residual-in_err-share-2.result (is_shared v ≡ true)) (sym is) (search rules)
 
 pub returns-clause-reply : goal.returns-clause-reply
 returns-clause-reply c =

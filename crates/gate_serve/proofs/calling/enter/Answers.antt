@@ -7,7 +7,7 @@ use Rattle.gate_serve.specs.declared.called.Called.TheVariants.{Memory}
 use Rattle.gate_serve.proofs.Asking.{asked_nothing}
 use Rattle.gate_serve.proofs.Doing.{event_of, did_nothing, did_take, goes_not_asking, goes_through_asking, goes_nowhere_asking}
 use Rattle.gate_walk.specs.Acts.{Act, tell_closing}
-use Rattle.gate_walk.specs.Walk.{entered, follows, walk_to}
+use Rattle.gate_walk.specs.Walk.{entered, pursues, walk_to}
 use Rattle.turn_desk.specs.Calls.{Taken, NotTaken}
 use Rattle.gate_serve.proofs.calling.enter.Goals as goal
 
@@ -32,7 +32,7 @@ pub returns-in-Ok-plan_for-clause-walked : goal.returns-in-Ok-plan_for-clause-wa
 returns-in-Ok-plan_for-clause-walked g c =
     let b = c.args.means.now.backend in
     let old : BackendTold = record { sent = g.B.Backend.sent b; given = g.B.Backend.given b; to_come = g.B.Backend.to_come b } in
-    let d = c.follow.new.means.backend in
+    let d = c.pursue.new.means.backend in
     let new : BackendTold = record { sent = g.B.Backend.sent d; given = g.B.Backend.given d; to_come = g.B.Backend.to_come d } in
     let m = c.args.message.now in
     let e : Event = enter_at m c.args.target.now in
@@ -40,9 +40,9 @@ returns-in-Ok-plan_for-clause-walked g c =
     let taken = subst (λ r. IfOk r (λ x. Taken seat_of event_of Answers c.args.seat c.call-seat.result.0 c.in-Ok.event x)) c.in-Ok-entering.is c.call-seat.ensures.taken in
     let first = did_take c.args.seat c.call-seat.result.0 e reply c.requires.own c.call-seat.ensures.own c.call-seat.ensures.none_from c.call-seat.ensures.same
     (subst (λ x. Taken seat_of event_of Answers c.args.seat c.call-seat.result.0 x reply) c.in-Ok.ensures taken) in
-    let then = subst (λ p. (acts : List Act) × Did c.call-seat.result.0 c.follow.result.0 acts × Reaches (follows m p) acts c.follow.result.1 × (c.follow.result.2 ≡ tell_closing acts) × Asked old new acts)
-    c.in-Ok-plan_for.ensures c.follow.ensures.walked in
-    goes_through_asking c.args.seat c.call-seat.result.0 c.follow.result.0 e reply (entered m c.args.target.now) c.follow.result.1 c.follow.result.2 old new first refl then
+    let then = subst (λ p. (acts : List Act) × Did c.call-seat.result.0 c.pursue.result.0 acts × Reaches (pursues m p) acts c.pursue.result.1 × (c.pursue.result.2 ≡ tell_closing acts) × Asked old new acts)
+    c.in-Ok-plan_for.ensures c.pursue.ensures.walked in
+    goes_through_asking c.args.seat c.call-seat.result.0 c.pursue.result.0 e reply (entered m c.args.target.now) c.pursue.result.1 c.pursue.result.2 old new first refl then
 
 pub returns-clause-walked : goal.returns-clause-walked
 returns-clause-walked g c =

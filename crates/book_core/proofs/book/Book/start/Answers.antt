@@ -8,7 +8,8 @@ use Rattle.book_core.specs.Books.{counts_of}
 use Rattle.book_core.proofs.Counted.{counts_of-none}
 use Rattle.book_core.proofs.Fitting.{opens_fit}
 use Rattle.book_core.specs.Starts.{StartFails, FailsAt, is_store_fault}
-use Rattle.book_core.proofs.Starting.{by_load, fails_by, keeps_first, stands_first}
+use Rattle.book_core.proofs.Starting.{by_load, fails_by, keeps_first, remembers_first, stands_first, stands_happened}
+use Rattle.book_core.specs.Standing.{standing}
 use Rattle.book_core.proofs.book.Book.start.Goals as goal
 
 pub returns-in-Err-clause-failed : goal.returns-in-Err-clause-failed
@@ -28,7 +29,9 @@ invariant_of-result g c =
     let lists : c.in-Ok-stand.current.tables.lists ≡ c.in-Ok.tables.lists = ap (λ s. s.lists) c.in-Ok-stand.ensures.stands in
     record {
       good = c.in-Ok-open.ensures.good;
-      stands = c.in-Ok-stand.ensures.stands ∙ stands_first base.opening c.in-Ok-stand.history.items c.in-Ok-stand.ensures.empty;
+      stands = ap (λ h. standing h c.in-Ok-stand.current) (sym (stands_happened base.opening c.in-Ok-stand.history.items c.in-Ok-stand.ensures.empty))
+          ∙ c.in-Ok-stand.ensures.stands ∙ stands_first base.opening c.in-Ok-stand.history.items c.in-Ok-stand.ensures.empty;
+      remembers = remembers_first base.opening c.in-Ok-stand.history.items c.in-Ok-stand.current.policies c.in-Ok-stand.ensures.empty c.in-Ok-stand.ensures.remembers;
       ready = subst (λ l. AreReady l c.in-Ok-stand.current.ready) (sym lists) (subst (λ r. AreReady c.in-Ok.tables.lists r) (sym c.in-Ok-stand.ensures.ready) c.in-Ok-open.ensures.ready);
       fits = subst (λ s. AreFit s.lists s.latest) (sym c.in-Ok-stand.ensures.stands) (opens_fit c.in-Ok.tables.lists c.in-Ok-open.ensures.good);
       counted = c.none.ensures ∙ sym (counts_of-none base.opening) ∙ ap (counts_of base.opening) (sym c.in-Ok-stand.ensures.empty);

@@ -1,0 +1,31 @@
+use Rattle.std.proofs.Common.{◌≡◌, ◌==◌, List, [], ◌∷◌, ap, refl, sym, subst, ◌∙◌, Ok, Err, IfOk, IfErr, true, false, rules}
+use Rattle.authorizer_call.specs.Outcomes.{policy_of}
+use Rattle.backend_core.specs.declared.outcome.Outcome.{Outcome}
+use Rattle.book_core.specs.Books.{Refuses}
+use Rattle.book_rules.specs.History.{Answers}
+use Rattle.book_rules.specs.declared.events.Event.{Event}
+use Rattle.book_rules.specs.declared.replies.Reply.{Reply}
+use Rattle.gate_serve.specs.Serving.{Asked, BackendTold, Did, Reaches, learn_at, recall_at, seat_of}
+use Rattle.gate_serve.specs.declared.called.Called.TheVariants.{Memory}
+use Rattle.gate_serve.proofs.Asking.{asked_in_vain, asked_nothing, asked_once}
+use Rattle.gate_serve.proofs.Doing.{event_of, did_nothing, did_take, goes_not_asking, goes_out, goes_through_asking, goes_nowhere_asking}
+use Rattle.gate_walk.specs.Acts.{Act, tell_closing}
+use Rattle.gate_walk.specs.Walk.{Call, consulted, follows, gives, inquires, learns, policy_in, recalled}
+use Rattle.method_answers.specs.Plans.{judged, way_of}
+use Rattle.turn_desk.specs.Calls.{Taken, NotTaken}
+use Rattle.gate_serve.proofs.consulting.decide.Goals as goal
+
+pub returns-in-Ok-clause-walked : goal.returns-in-Ok-clause-walked
+returns-in-Ok-clause-walked g c =
+    let b = c.args.means.now.backend in
+    let old : BackendTold = record { sent = g.B.Backend.sent b; given = g.B.Backend.given b; to_come = g.B.Backend.to_come b } in
+    let d = c.follow.new.means.backend in
+    let new : BackendTold = record { sent = g.B.Backend.sent d; given = g.B.Backend.given d; to_come = g.B.Backend.to_come d } in
+    subst (λ w. (acts : List Act) × Did c.args.seat c.follow.result.0 acts × Reaches (follows c.args.message.now w) acts c.follow.result.1 × (c.follow.result.2 ≡ tell_closing acts) × Asked old new acts)
+    c.in-Ok.ensures c.follow.ensures.walked
+
+pub returns-in-Err-clause-walked : goal.returns-in-Err-clause-walked
+returns-in-Err-clause-walked g c =
+    let b = c.args.means.now.backend in
+    let told : BackendTold = record { sent = g.B.Backend.sent b; given = g.B.Backend.given b; to_come = g.B.Backend.to_come b } in
+    goes_not_asking c.args.seat (follows c.args.message.now (judged c.args.given.asking.call c.args.given.asking.arn (Ok c.args.given.policy))) told c.requires.own

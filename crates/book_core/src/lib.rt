@@ -16,6 +16,7 @@
 //! | in memory, whose call 0, the load, fails | `StoreFault`, and the keeper back |
 //! | in memory, whose call 1 fails | the first change is replied `Store`; the next is made by calls 2 and 3 |
 //! | any, and a history that is full | `Err(SessionFull)`, and nothing changes |
+//! | any, told `Learn` of a policy for 10 seconds at the moment 1000, and then `Recall` of its name | `Remembered` below the moment 11000, `NotRemembered` from there on, and behind a `Flush` of its stage that was replied `Done` |
 //!
 //! What the contracts promise, over every keeper: each entry and its reply are what the rules say after the history before
 //! (`Answers` of `book_rules`); only a change is not kept, and, where the keeper tells which of its calls fail, exactly where one of
@@ -24,7 +25,10 @@
 //! the faults that the keeper counted (`Keeps` of `specs/Books.antt`). So a [`Book`] is a [`turn_desk::Machine`], with no clause of its own.
 //! As a law, [`laws::what_goes_through_a_book_may_cross_threads`]; and `proofs/Sent.antt` has that a book may, where its keeper may.
 //!
-//! Left out: want of memory has no cause, but it comes only where a reply shares something or a change is written.
+//! Policies stand in no table: a book remembers those of its own history, the 1,024 names that were learned last, and what it
+//! remembers is at each point what `policy_memory` says of that history (`IsBook.remembers`). The next book remembers none of them.
+//!
+//! Left out: want of memory has no cause, but it comes only where a reply shares something, a change is written or a flush is noted.
 #![tactic(auto)]
 
 mod admitting;

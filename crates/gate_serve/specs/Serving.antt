@@ -27,7 +27,7 @@ use Rattle.http_framing.specs.declared.fault.EdgeFault.{EdgeFault}
 use Rattle.http_framing.specs.declared.fault.EdgeFault.TheVariants as edge
 use Rattle.method_answers.specs.Calls.{Call as Routed}
 use Rattle.method_answers.specs.Keys.{key_value}
-use Rattle.method_answers.specs.declared.authorizing.Authorizing.{Authorizing}
+use Rattle.method_answers.specs.Questions.{Consulting}
 use Rattle.policy_core.specs.declared.policy.Policy.{Policy}
 use Rattle.turn_desk.specs.Calls.{SeatFacts, IsSameSeat, HasItsOwn}
 use Rattle.turn_desk.specs.Entries.{HasNoneFrom}
@@ -70,10 +70,10 @@ enter_at m target = Enter m.moment m.word target.api target.stage
 abbrev pub admit_at : Message → Routed → Event
 admit_at m c = Admit m.moment c.target.api c.target.stage (key_value c.request)
 
-abbrev pub recall_at : Message → Authorizing → Event
+abbrev pub recall_at : Message → Consulting → Event
 recall_at m a = Recall m.moment (name_of a.call.target a.question)
 
-abbrev pub learn_at : Message → Authorizing → Policy → Event
+abbrev pub learn_at : Message → Consulting → Policy → Event
 learn_at m a policy = Learn m.moment (name_of a.call.target a.question) policy a.question.ttl
 
 -- a list that is told goes on by these

@@ -3,7 +3,7 @@ ghost use Rattle.std.specs.Prelude.{◌≡◌, ◌==◌, List, IfOk, Ok, true, f
 ghost use Rattle.authorizer_call.specs.Outcomes.{policy_of as policy_of_outcome};
 ghost use Rattle.authorizer_call.specs.Views.{Tells};
 ghost use Rattle.gate_walk.specs.Acts.{Act, tell_closing};
-ghost use Rattle.gate_walk.specs.Walk.{consulted, follows, gives, inquires, learns, name_of as name_of_question, pursues};
+ghost use Rattle.gate_walk.specs.Walk.{consulted, follows, gives, inquires, inquires_by, learns, name_of as name_of_question, pursues};
 ghost use Rattle.gate_serve.specs.Serving.{Asked, BackendTold, Did, Reaches, learn_at, recall_at, seat_of};
 ghost use Rattle.method_answers.specs.Plans.{course_of, judged};
 ghost use Rattle.turn_desk.specs.Calls.{HasItsOwn};
@@ -11,7 +11,7 @@ ghost use Rattle.turn_desk.specs.Calls.{HasItsOwn};
 use crate::called::{Called, refusal};
 use crate::following::follow;
 use authorizer_call::{AuthorizerFault, policy_of};
-use backend_core::{Backend, Outcome};
+use backend_core::{Backend, Outcome, WireRequest};
 use book_core::Book;
 use book_rules::Event;
 use gate_ports::{Gate, Means};
@@ -32,6 +32,13 @@ struct Given<'a> {
     policy: Shared<Policy>,
 }
 
+// A call, and the request that asks its authorizer.
+#[derive(Drop)]
+struct Inquiry<'a> {
+    asking: Authorizing<'a>,
+    request: WireRequest,
+}
+
 // The name under which the policy of a call is remembered.
 fn name_of(alloc: Global, asking: &Authorizing) -> Result<PolicyName, Memory>
     ensures { IfOk result (λ name. name ≡ name_of_question asking.now.call.target asking.now.question) }
@@ -40,8 +47,8 @@ fn name_of(alloc: Global, asking: &Authorizing) -> Result<PolicyName, Memory>
     Ok(PolicyName {
         api: target.api.copy(alloc)?,
         stage: target.stage.copy(alloc)?,
-        authorizer: asking.question.authorizer.copy(alloc)?,
-        token: asking.question.token.copy(alloc)?,
+        authorizer: asking.authorizer().copy(alloc)?,
+        token: asking.token().copy(alloc)?,
     })
 }
 
@@ -63,7 +70,7 @@ fn learn_of(alloc: Global, message: &Message, given: &Given) -> Result<Event, Me
         moment: message.moment,
         name: name_of(alloc, &given.asking)?,
         policy: given.policy.share()?,
-        ttl: given.asking.question.ttl,
+        ttl: given.asking.ttl(),
     })
 }
 
@@ -152,14 +159,56 @@ fn give<R: Wait, K: Keeper, B: Backend, T, W, G: Gate>(
     ensures clock { means.new.clock ≡ means.old.clock }
     ensures words { means.new.words ≡ means.old.words }
 {
-    if given.asking.question.ttl == 0 {
+    if given.asking.ttl() == 0 {
         decide(rt, alloc, desk, seat, message, given, means)
     } else {
         learn(rt, alloc, desk, seat, message, given, means)
     }
 }
 
-// Asks the authorizer, once the gate is passed, and goes on by what it gives. No turn is held meanwhile.
+// Sends the request, once the gate is passed, and goes on by what the authorizer gives. No turn is held meanwhile.
+fn send<R: Wait, K: Keeper, B: Backend, T, W, G: Gate>(
+    rt: &R,
+    alloc: Global,
+    desk: &Desk<Book<K>>,
+    seat: Seat<Book<K>>,
+    message: &Message,
+    inquiry: Inquiry,
+    means: &mut Means<B, T, W, G>,
+) -> (Seat<Book<K>>, Called, bool)
+    requires desk { seat.desk ≡ desk.now }
+    requires own { HasItsOwn seat_of seat }
+    ensures walked { (acts : List Act) × Did seat result.0 acts
+        × Reaches (inquires_by (Some inquiry.entry.request) message.now inquiry.entry.asking.call.target inquiry.entry.asking.question (judged inquiry.entry.asking.call inquiry.entry.asking.arn)) acts result.1 × (result.2 ≡ tell_closing acts)
+        × Asked (record { sent = B.sent means.old.backend; given = B.given means.old.backend; to_come = B.to_come means.old.backend })
+        (record { sent = B.sent means.new.backend; given = B.given means.new.backend; to_come = B.to_come means.new.backend }) acts }
+    ensures clock { means.new.clock ≡ means.old.clock }
+    ensures words { means.new.words ≡ means.old.words }
+{
+    let Inquiry { asking, request } = inquiry;
+    means.gate.pass(asking.place());
+    let outcome = means.backend.exchange(alloc, &request);
+    if let Outcome::Memory = &outcome {
+        return (seat, Called::Memory, false);
+    }
+    match take_policy(alloc, &outcome) {
+        Ok(policy) => give(
+            rt,
+            alloc,
+            desk,
+            seat,
+            message,
+            Given { asking, policy },
+            means,
+        ),
+        Err(fault) => match asking.failed(alloc, fault) {
+            Ok(way) => follow(rt, alloc, desk, seat, message, way, means),
+            Err(_) => (seat, Called::Memory, false),
+        },
+    }
+}
+
+// Asks the authorizer. The request is made here, since a policy that is remembered needs none.
 fn inquire<R: Wait, K: Keeper, B: Backend, T, W, G: Gate>(
     rt: &R,
     alloc: Global,
@@ -178,25 +227,21 @@ fn inquire<R: Wait, K: Keeper, B: Backend, T, W, G: Gate>(
     ensures clock { means.new.clock ≡ means.old.clock }
     ensures words { means.new.words ≡ means.old.words }
 {
-    means.gate.pass(asking.call.place());
-    let outcome = means.backend.exchange(alloc, &asking.question.request);
-    if let Outcome::Memory = &outcome {
-        return (seat, Called::Memory, false);
-    }
-    match take_policy(alloc, &outcome) {
-        Ok(policy) => give(
+    match asking.request(alloc) {
+        Ok(Some(request)) => send(
             rt,
             alloc,
             desk,
             seat,
             message,
-            Given { asking, policy },
+            Inquiry { asking, request },
             means,
         ),
-        Err(fault) => match asking.failed(alloc, fault) {
+        Ok(None) => match asking.failed(alloc, AuthorizerFault::Configuration) {
             Ok(way) => follow(rt, alloc, desk, seat, message, way, means),
             Err(_) => (seat, Called::Memory, false),
         },
+        Err(_) => (seat, Called::Memory, false),
     }
 }
 
@@ -260,7 +305,7 @@ fn consult<R: Wait, K: Keeper, B: Backend, T, W, G: Gate>(
     ensures clock { means.new.clock ≡ means.old.clock }
     ensures words { means.new.words ≡ means.old.words }
 {
-    if asking.question.ttl == 0 {
+    if asking.ttl() == 0 {
         inquire(rt, alloc, desk, seat, message, asking, means)
     } else {
         recall(rt, alloc, desk, seat, message, asking, means)

@@ -8,6 +8,7 @@ use Rattle.admin_routes.specs.Orders.{order_at, order_by, order_of}
 use Rattle.admin_routes.specs.Routes.{is_admin, route_in, segments_of}
 use Rattle.admin_routes.specs.declared.routes.Route.{Route}
 use Rattle.backend_core.specs.declared.outcome.Outcome.{Outcome}
+use Rattle.backend_core.specs.declared.request.WireRequest.{WireRequest}
 use Rattle.book_rules.specs.declared.events.Command.{Command}
 use Rattle.book_rules.specs.declared.events.Event.{Event}
 use Rattle.book_rules.specs.declared.events.Event.TheVariants.{Enter, Recall, Learn, Admit, Admin, Leave}
@@ -21,14 +22,15 @@ use Rattle.call_facts.specs.declared.target.Target.{Target}
 use Rattle.gate_walk.specs.Acts.{Act, took, refused, sent, Goes}
 use Rattle.gate_walk.specs.Laws.{AdmitsOnce, AsksWhereKeyed, TellsItsAdmission, WasRefusedAs, asks_admission, is_admit, is_keyed_by, is_keyed_under}
 use Rattle.gate_walk.specs.Planning.{planned_at, planned_by, planned_for, too_large_made}
-use Rattle.gate_walk.specs.Walk.{Call, asks, sends, answers, administered, admission_of, consulted, follows, gives, inquires, learns, leaves, name_of, performs, policy_in, pursues, recalled, walk, way_to}
+use Rattle.gate_walk.specs.Walk.{Call, asks, sends, answers, administered, admission_of, consulted, follows, gives, inquires, inquires_by, learns, leaves, name_of, performs, policy_in, pursues, recalled, walk, way_to}
 use Rattle.gate_walk.specs.declared.message.Message.{Message}
 use Rattle.method_answers.proofs.Admitting.{asks_where_keyed as method_asks, tells_its_admission}
 use Rattle.method_answers.specs.Admitting.{TellsBy, TellsAlong, TellsNone, TellsNoneEach, TellsOn, asks_admission as way_asks, tells_admission, way_along}
 use Rattle.method_answers.specs.Plans.{Course, Planned, Way, admits, answered, consults, exchanges, free, goes}
-use Rattle.method_answers.specs.declared.authorizing.Question.{Question}
+use Rattle.method_answers.specs.Questions.{Question}
 use Rattle.authorizer_call.specs.Outcomes.{policy_of}
 use Rattle.authorizer_call.specs.declared.fault.AuthorizerFault.{AuthorizerFault}
+use Rattle.authorizer_call.specs.declared.fault.AuthorizerFault.TheVariants.{Configuration}
 use Rattle.method_answers.specs.declared.keys.Admission.{Admission}
 use Rattle.method_answers.specs.declared.keys.Admission.TheVariants as admission
 use Rattle.method_flow.specs.Answers.{text_made}
@@ -114,8 +116,12 @@ on_given : (m : Message) (target : Target) (q : Question) (next : Result Policy 
 on_given m target q next tells acts (Ok policy) = on_learn (q.ttl == 0) m target q next tells acts policy
 on_given m target q next tells acts (Err why) = on_way m (next (Err why)) acts (tells (Err why))
 
+on_request : (request : Option WireRequest) (m : Message) (target : Target) (q : Question) (next : Result Policy AuthorizerFault → Way) (tells : (given : Result Policy AuthorizerFault) → TellsOn (next given)) (acts : List Act) → EachBehind Told acts (inquires_by request m target q next)
+on_request None m target q next tells acts = on_given m target q next tells acts (Err Configuration)
+on_request (Some request) m target q next tells acts = λ outcome. on_given m target q next tells _ (policy_of outcome)
+
 on_inquiry : (m : Message) (target : Target) (q : Question) (next : Result Policy AuthorizerFault → Way) (tells : (given : Result Policy AuthorizerFault) → TellsOn (next given)) (acts : List Act) → EachBehind Told acts (inquires m target q next)
-on_inquiry m target q next tells acts = λ outcome. on_given m target q next tells _ (policy_of outcome)
+on_inquiry m target q next tells acts = on_request q.request m target q next tells acts
 
 on_recall : (m : Message) (target : Target) (q : Question) (next : Result Policy AuthorizerFault → Way) (tells : (given : Result Policy AuthorizerFault) → TellsOn (next given)) (acts : List Act) (found : Option Policy) → EachBehind Told acts (recalled m target q next found)
 on_recall m target q next tells acts (Some policy) = on_way m (next (Ok policy)) acts (tells (Ok policy))
@@ -283,8 +289,12 @@ gives_once : (m : Message) (target : Target) (q : Question) (next : Result Polic
 gives_once m target q next (Ok policy) = learns_once (q.ttl == 0) m target q next policy
 gives_once m target q next (Err why) = way_once m (next (Err why))
 
+inquired_once : (request : Option WireRequest) (m : Message) (target : Target) (q : Question) (next : Result Policy AuthorizerFault → Way) → AdmitsAtMost (inquires_by request m target q next)
+inquired_once None m target q next = gives_once m target q next (Err Configuration)
+inquired_once (Some request) m target q next = λ outcome. gives_once m target q next (policy_of outcome)
+
 inquires_once : (m : Message) (target : Target) (q : Question) (next : Result Policy AuthorizerFault → Way) → AdmitsAtMost (inquires m target q next)
-inquires_once m target q next = λ outcome. gives_once m target q next (policy_of outcome)
+inquires_once m target q next = inquired_once q.request m target q next
 
 recalled_once : (m : Message) (target : Target) (q : Question) (next : Result Policy AuthorizerFault → Way) (found : Option Policy) → AdmitsAtMost (recalled m target q next found)
 recalled_once m target q next (Some policy) = way_once m (next (Ok policy))

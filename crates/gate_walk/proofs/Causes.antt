@@ -5,6 +5,7 @@ use Rattle.admin_routes.specs.Asked.{Asked, asked_by}
 use Rattle.admin_routes.specs.Orders.{order_at, order_by, order_of}
 use Rattle.admin_routes.specs.Routes.{is_admin, route_in, segments_of}
 use Rattle.admin_routes.specs.declared.routes.Route.{Route}
+use Rattle.backend_core.specs.declared.request.WireRequest.{WireRequest}
 use Rattle.book_rules.specs.declared.events.Command.{Command}
 use Rattle.book_rules.specs.declared.replies.Reply.{Reply}
 use Rattle.book_rules.specs.declared.replies.Reply.TheVariants.{Entered, NoStage, Remembered, NotRemembered, Learned, Admitted, InvalidKey, Throttled, QuotaExceeded, Store, Left, Done, Deployed, Usage, Refused}
@@ -20,13 +21,14 @@ use Rattle.gateway_answers.specs.Causes.{causes_in}
 use Rattle.method_answers.proofs.Causes.{names_each}
 use Rattle.method_answers.specs.Causes.{Names, NamesAlong, NamesEach, NamesOn, names_of}
 use Rattle.method_answers.specs.Plans.{Course, Planned, Way, admits, answered, consults, exchanges, free, goes, planned}
-use Rattle.method_answers.specs.declared.authorizing.Question.{Question}
+use Rattle.method_answers.specs.Questions.{Question}
 use Rattle.authorizer_call.specs.Outcomes.{policy_of}
 use Rattle.authorizer_call.specs.declared.fault.AuthorizerFault.{AuthorizerFault}
+use Rattle.authorizer_call.specs.declared.fault.AuthorizerFault.TheVariants.{Configuration}
 use Rattle.api_model.specs.Definition.{Definition}
 use Rattle.call_facts.specs.declared.facts.CallFacts.{CallFacts}
 use Rattle.gate_walk.specs.Laws.{NamesItsCause}
-use Rattle.gate_walk.specs.Walk.{administered, admission_of, consulted, follows, gives, inquires, is_head, learns, leaves, performs, policy_in, pursues, recalled, walk, way_to}
+use Rattle.gate_walk.specs.Walk.{administered, admission_of, consulted, follows, gives, inquires, inquires_by, is_head, learns, leaves, performs, policy_in, pursues, recalled, walk, way_to}
 use Rattle.gate_walk.specs.declared.message.Message.{Message}
 use Rattle.gate_walk.proofs.Ways.{Each, each_answer}
 use Rattle.http_edge.specs.Answers.{spelled}
@@ -142,8 +144,12 @@ on_given : (m : Message) (target : Target) (q : Question) (next : Result Policy 
 on_given m target q next names (Ok policy) = on_learn (q.ttl == 0) m target q next names policy
 on_given m target q next names (Err why) = on_planned m (next (Err why)) (names (Err why))
 
+on_request : (request : Option WireRequest) (m : Message) (target : Target) (q : Question) (next : Result Policy AuthorizerFault → Way) (names : (given : Result Policy AuthorizerFault) → NamesOn (next given)) → Each (Named m) false (inquires_by request m target q next)
+on_request None m target q next names = on_given m target q next names (Err Configuration)
+on_request (Some request) m target q next names = λ outcome. on_given m target q next names (policy_of outcome)
+
 on_inquiry : (m : Message) (target : Target) (q : Question) (next : Result Policy AuthorizerFault → Way) (names : (given : Result Policy AuthorizerFault) → NamesOn (next given)) → Each (Named m) false (inquires m target q next)
-on_inquiry m target q next names = λ outcome. on_given m target q next names (policy_of outcome)
+on_inquiry m target q next names = on_request q.request m target q next names
 
 on_recall : (m : Message) (target : Target) (q : Question) (next : Result Policy AuthorizerFault → Way) (names : (given : Result Policy AuthorizerFault) → NamesOn (next given)) (found : Option Policy) → Each (Named m) false (recalled m target q next found)
 on_recall m target q next names (Some policy) = on_planned m (next (Ok policy)) (names (Ok policy))

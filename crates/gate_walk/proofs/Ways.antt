@@ -5,7 +5,9 @@ use Rattle.admin_routes.specs.Orders.{order_of}
 use Rattle.admin_routes.specs.Routes.{is_admin}
 use Rattle.authorizer_call.specs.Outcomes.{policy_of}
 use Rattle.authorizer_call.specs.declared.fault.AuthorizerFault.{AuthorizerFault}
+use Rattle.authorizer_call.specs.declared.fault.AuthorizerFault.TheVariants.{Configuration}
 use Rattle.backend_core.specs.declared.outcome.Outcome.{Outcome}
+use Rattle.backend_core.specs.declared.request.WireRequest.{WireRequest}
 use Rattle.book_rules.specs.declared.events.Command.{Command}
 use Rattle.book_rules.specs.declared.replies.Reply.{Reply}
 use Rattle.call_facts.specs.Target.{target_of}
@@ -16,10 +18,10 @@ use Rattle.std.proofs.lemmas.Grind.{common_steps}
 use Rattle.gate_walk.specs.Acts.{Act, took, refused, sent, Goes, sent_by, given_to, leaves_closing, tell_closing}
 use Rattle.gate_walk.specs.Closing.{asks_close, closes, most_messages}
 use Rattle.gate_walk.specs.Planning.{planned_for}
-use Rattle.gate_walk.specs.Walk.{Call, asks, sends, answers, administered, admission_of, closing_by, consulted, follows, gives, inquires, learns, leaves, performs, policy_in, pursues, recalled, walk, way_to}
+use Rattle.gate_walk.specs.Walk.{Call, asks, sends, answers, administered, admission_of, closing_by, consulted, follows, gives, inquires, inquires_by, learns, leaves, performs, policy_in, pursues, recalled, walk, way_to}
 use Rattle.gate_walk.specs.declared.message.Message.{Message}
 use Rattle.method_answers.specs.Plans.{Course, Planned, Way, admits, answered, consults, exchanges, free, goes}
-use Rattle.method_answers.specs.declared.authorizing.Question.{Question}
+use Rattle.method_answers.specs.Questions.{Question}
 use Rattle.method_flow.specs.declared.answers.Made.{Made}
 use Rattle.policy_core.specs.declared.policy.Policy.{Policy}
 
@@ -90,8 +92,12 @@ gives_closes : (m : Message) (target : Target) (q : Question) (next : Result Pol
 gives_closes m target q next (Ok policy) = learns_closes (q.ttl == 0) m target q next policy
 gives_closes m target q next (Err why) = follows_closes m (next (Err why))
 
+inquired_closes : (request : Option WireRequest) (m : Message) (target : Target) (q : Question) (next : Result Policy AuthorizerFault → Way) → Each (Closes m) false (inquires_by request m target q next)
+inquired_closes None m target q next = gives_closes m target q next (Err Configuration)
+inquired_closes (Some request) m target q next = λ outcome. gives_closes m target q next (policy_of outcome)
+
 inquires_closes : (m : Message) (target : Target) (q : Question) (next : Result Policy AuthorizerFault → Way) → Each (Closes m) false (inquires m target q next)
-inquires_closes m target q next = λ outcome. gives_closes m target q next (policy_of outcome)
+inquires_closes m target q next = inquired_closes q.request m target q next
 
 recalled_closes : (m : Message) (target : Target) (q : Question) (next : Result Policy AuthorizerFault → Way) (found : Option Policy) → Each (Closes m) false (recalled m target q next found)
 recalled_closes m target q next (Some policy) = follows_closes m (next (Ok policy))

@@ -6,6 +6,7 @@ use Rattle.admin_routes.specs.Orders.{order_of}
 use Rattle.admin_routes.specs.Routes.{is_admin}
 use Rattle.authorizer_call.specs.Outcomes.{policy_of}
 use Rattle.authorizer_call.specs.declared.fault.AuthorizerFault.{AuthorizerFault}
+use Rattle.authorizer_call.specs.declared.fault.AuthorizerFault.TheVariants.{Configuration}
 use Rattle.backend_core.specs.declared.outcome.Outcome.{Outcome}
 use Rattle.backend_core.specs.declared.request.WireRequest.{WireRequest}
 use Rattle.book_rules.specs.declared.events.Command.{Command}
@@ -23,7 +24,7 @@ use Rattle.gate_walk.specs.Planning.{planned_for}
 use Rattle.gate_walk.specs.declared.message.Message.{Message}
 use Rattle.http_edge.specs.Answers.{spelled}
 use Rattle.method_answers.specs.Plans.{Course, Planned, Way, admits, answered as answered_by, consults, exchanges, free, goes}
-use Rattle.method_answers.specs.declared.authorizing.Question.{Question}
+use Rattle.method_answers.specs.Questions.{Question}
 use Rattle.method_answers.specs.declared.keys.Admission.{Admission}
 use Rattle.method_answers.specs.declared.keys.Admission.TheVariants as admission
 use Rattle.method_flow.specs.declared.answers.Made.{Made}
@@ -112,9 +113,14 @@ abbrev pub gives : Message → Target → Question → (Result Policy Authorizer
 gives m target q next (Ok policy) = learns (q.ttl == 0) m target q next policy
 gives m target q next (Err why) = follows m (next (Err why))
 
+-- a request to the authorizer is sent; where its uri leads nowhere there is none, and it gives no policy
+abbrev pub inquires_by : Option WireRequest → Message → Target → Question → (Result Policy AuthorizerFault → Way) → Call
+inquires_by None m target q next = gives m target q next (Err Configuration)
+inquires_by (Some request) m target q next = sends request (λ outcome. gives m target q next (policy_of outcome))
+
 -- the authorizer is asked
 abbrev pub inquires : Message → Target → Question → (Result Policy AuthorizerFault → Way) → Call
-inquires m target q next = sends q.request (λ outcome. gives m target q next (policy_of outcome))
+inquires m target q next = inquires_by q.request m target q next
 
 -- the policy that a reply to a Recall remembers
 abbrev pub policy_in : Reply → Option Policy

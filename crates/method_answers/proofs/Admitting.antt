@@ -1,21 +1,18 @@
 -- The kinds that tell of an admission come of one alone.
 use Rattle.std.proofs.Common.{◌≡◌, ℕ, Bool, true, false, ◌&&◌, List, [], ◌∷◌, Option, Some, None, Result, Ok, Err, refl}
-use Rattle.std.specs.Prelude.{IfSome, is_some}
+use Rattle.std.specs.Prelude.{IfSome}
 use Rattle.std.specs.Option.{option_map}
 use Rattle.api_model.specs.Definition.{Definition}
 use Rattle.api_model.specs.Getters.{authorizer_of, or_second, validator_of}
-use Rattle.api_parts.specs.declared.parts.Authorizer.{Authorizer}
 use Rattle.api_parts.specs.declared.parts.Parameter.{Parameter}
 use Rattle.api_parts.specs.declared.parts.TokenAuthorizer.{TokenAuthorizer}
 use Rattle.api_parts.specs.declared.parts.Validator.{Validator}
 use Rattle.authorizer_call.specs.Names.{arn_of}
 use Rattle.authorizer_call.specs.Outcomes.{allows}
-use Rattle.authorizer_call.specs.Requests.{authorizer_request_of}
 use Rattle.authorizer_call.specs.declared.fault.AuthorizerFault.{AuthorizerFault}
 use Rattle.authorizer_call.specs.declared.fault.AuthorizerFault.TheVariants as fault
 use Rattle.backend_core.specs.declared.outcome.Outcome.{Outcome}
 use Rattle.backend_core.specs.declared.outcome.Outcome.TheVariants as outcomes
-use Rattle.backend_core.specs.declared.request.WireRequest.{WireRequest}
 use Rattle.call_facts.specs.declared.answer.Answer.{Answer}
 use Rattle.call_facts.specs.declared.facts.CallFacts.{CallFacts}
 use Rattle.call_facts.specs.declared.request.Request.{Request}
@@ -34,7 +31,7 @@ use Rattle.method_answers.specs.Calls.{Call}
 use Rattle.method_answers.specs.Failing.{failed_by as failure}
 use Rattle.method_answers.specs.Keys.{key_required}
 use Rattle.method_answers.specs.Outcomes.{answered_by, mapped_made, outcome_made, reply_made, ruled, stopped}
-use Rattle.method_answers.specs.Plans.{admitted, asked, asked_by, authorized, call_at, checked, decided_by, fault_kind, judged, keyed, let_by, planned, prepared, refused_by, routed, validated, with_key, with_policy}
+use Rattle.method_answers.specs.Plans.{admitted, asked, authorized, call_at, checked, decided_by, fault_kind, judged, keyed, let_by, planned, prepared, refused_by, routed, validated, with_key, with_policy}
 use Rattle.method_answers.specs.declared.keys.Admission.{Admission}
 use Rattle.method_answers.specs.declared.keys.Admission.TheVariants.{Admitted, Refused}
 use Rattle.method_checks.specs.MediaTypes.{media_type}
@@ -144,13 +141,9 @@ of_given : (c : Call) (arn : List ℕ) (given : Result Policy AuthorizerFault) �
 of_given c arn (Ok policy) = of_decision (allows (decision policy arn)) (with_policy c policy)
 of_given c arn (Err why) = of_fault c why
 
-of_asked_by : (c : Call) (a : Authorizer) (arn text : List ℕ) (request : Option WireRequest) → TellsAlong (asked_by c a arn text request)
-of_asked_by c a arn text None = refl
-of_asked_by c a arn text (Some request) = of_given c arn
-
 of_asked : (c : Call) (arn text : List ℕ) (a : Option TokenAuthorizer) → TellsAlong (asked c arn text a)
 of_asked c arn text None = of_let_by c
-of_asked c arn text (Some a) = of_asked_by c a.authorizer arn text (authorizer_request_of a.authorizer text arn)
+of_asked c arn text (Some a) = of_given c arn
 
 of_token : (c : Call) (t : Token) → TellsAlong (authorized c t)
 of_token c token.None = of_let_by c
@@ -182,17 +175,11 @@ asks_given : (c : Call) (arn : List ℕ) (given : Result Policy AuthorizerFault)
 asks_given c arn (Ok policy) = asks_decided (allows (decision policy arn)) (with_policy c policy)
 asks_given c arn (Err why) = refl
 
-asks_asked_by :
-    (c : Call) (a : Authorizer) (arn text : List ℕ) (given : Result Policy AuthorizerFault) (request : Option WireRequest)
-    → asks_admission (way_along given (asked_by c a arn text request)) ≡ ((is_some request && lets_by arn given) && key_required c.definition c.method)
-asks_asked_by c a arn text given None = refl
-asks_asked_by c a arn text given (Some request) = asks_given c arn given
-
 asks_asked :
     (c : Call) (arn text : List ℕ) (given : Result Policy AuthorizerFault) (a : Option TokenAuthorizer)
-    → asks_admission (way_along given (asked c arn text a)) ≡ (is_let_by arn text given a && key_required c.definition c.method)
+    → asks_admission (way_along given (asked c arn text a)) ≡ (is_let_by arn given a && key_required c.definition c.method)
 asks_asked c arn text given None = asks_let_by c
-asks_asked c arn text given (Some a) = asks_asked_by c a.authorizer arn text given (authorizer_request_of a.authorizer text arn)
+asks_asked c arn text given (Some a) = asks_given c arn given
 
 asks_token :
     (c : Call) (given : Result Policy AuthorizerFault) (t : Token)

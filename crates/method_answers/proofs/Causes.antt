@@ -2,16 +2,13 @@
 use Rattle.std.proofs.Common.{ℕ, Bool, true, false, List, Option, Some, None, Result, Ok, Err}
 use Rattle.api_model.specs.Definition.{Definition}
 use Rattle.api_model.specs.Getters.{authorizer_of}
-use Rattle.api_parts.specs.declared.parts.Authorizer.{Authorizer}
 use Rattle.api_parts.specs.declared.parts.ResponseRule.{ResponseRule}
 use Rattle.api_parts.specs.declared.parts.TokenAuthorizer.{TokenAuthorizer}
 use Rattle.authorizer_call.specs.Names.{arn_of}
 use Rattle.authorizer_call.specs.Outcomes.{allows}
-use Rattle.authorizer_call.specs.Requests.{authorizer_request_of}
 use Rattle.authorizer_call.specs.declared.fault.AuthorizerFault.{AuthorizerFault}
 use Rattle.backend_core.specs.declared.outcome.Outcome.{Outcome}
 use Rattle.backend_core.specs.declared.outcome.Outcome.TheVariants as outcomes
-use Rattle.backend_core.specs.declared.request.WireRequest.{WireRequest}
 use Rattle.call_facts.specs.declared.answer.Answer.{Answer}
 use Rattle.call_facts.specs.declared.facts.CallFacts.{CallFacts}
 use Rattle.call_facts.specs.declared.kind.Kind.{Kind}
@@ -30,7 +27,7 @@ use Rattle.method_answers.specs.Calls.{Call}
 use Rattle.method_answers.specs.Causes.{Names, NamesAlong, NamesEach, NamesOn, NamesItsCause}
 use Rattle.method_answers.specs.Keys.{key_required}
 use Rattle.method_answers.specs.Outcomes.{answered_by, mapped_made, outcome_made, reply_made, ruled}
-use Rattle.method_answers.specs.Plans.{admitted, asked, asked_by, authorized, call_at, checked, decided_by, judged, keyed, let_by, planned, prepared, routed, validated, with_key, with_policy}
+use Rattle.method_answers.specs.Plans.{admitted, asked, authorized, call_at, checked, decided_by, judged, keyed, let_by, planned, prepared, routed, validated, with_key, with_policy}
 use Rattle.method_answers.specs.declared.keys.Admission.{Admission}
 use Rattle.method_answers.specs.declared.keys.Admission.TheVariants.{Admitted, Refused}
 use Rattle.method_answers.proofs.Free.{NamesNone, client_names_none, proxied_names_none}
@@ -101,13 +98,9 @@ of_given : (c : Call) (arn : List ℕ) (given : Result Policy AuthorizerFault) �
 of_given c arn (Ok policy) = of_decision (allows (decision policy arn)) (with_policy c policy)
 of_given c arn (Err why) = of_failure _ _ _ _
 
-of_asked_by : (c : Call) (a : Authorizer) (arn text : List ℕ) (request : Option WireRequest) → NamesAlong (asked_by c a arn text request)
-of_asked_by c a arn text None = of_failure _ _ _ _
-of_asked_by c a arn text (Some request) = of_given c arn
-
 of_asked : (c : Call) (arn text : List ℕ) (a : Option TokenAuthorizer) → NamesAlong (asked c arn text a)
 of_asked c arn text None = of_let_by c
-of_asked c arn text (Some a) = of_asked_by c a.authorizer arn text (authorizer_request_of a.authorizer text arn)
+of_asked c arn text (Some a) = of_given c arn
 
 of_token : (c : Call) (t : Token) → NamesAlong (authorized c t)
 of_token c token.None = of_let_by c

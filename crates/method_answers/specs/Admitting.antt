@@ -1,11 +1,10 @@
 -- What tells of an admission, and where one is asked for.
-use Rattle.std.specs.Prelude.{◌≡◌, Bool, true, false, ◌&&◌, List, ℕ, Some, IfSome, Option, None, Result, Ok, Err, is_some}
+use Rattle.std.specs.Prelude.{◌≡◌, Bool, true, false, ◌&&◌, List, ℕ, Some, IfSome, Option, None, Result, Ok, Err}
 use Rattle.api_model.specs.Definition.{Definition}
 use Rattle.api_model.specs.Getters.{authorizer_of}
 use Rattle.api_parts.specs.declared.parts.TokenAuthorizer.{TokenAuthorizer}
 use Rattle.authorizer_call.specs.Names.{arn_of}
 use Rattle.authorizer_call.specs.Outcomes.{allows}
-use Rattle.authorizer_call.specs.Requests.{authorizer_request_of}
 use Rattle.authorizer_call.specs.declared.fault.AuthorizerFault.{AuthorizerFault}
 use Rattle.backend_core.specs.declared.outcome.Outcome.{Outcome}
 use Rattle.call_facts.specs.declared.facts.CallFacts.{CallFacts}
@@ -75,16 +74,16 @@ abbrev pub lets_by : List ℕ → Result Policy AuthorizerFault → Bool
 lets_by arn (Ok policy) = allows (decision policy arn)
 lets_by arn (Err why) = false
 
--- the authorizer is one that can be asked, and lets the call by
-abbrev pub is_let_by : List ℕ → List ℕ → Result Policy AuthorizerFault → Option TokenAuthorizer → Bool
-is_let_by arn token given None = true
-is_let_by arn token given (Some a) = is_some (authorizer_request_of a.authorizer token arn) && lets_by arn given
+-- the authorizer, where there is one, lets the call by
+abbrev pub is_let_by : List ℕ → Result Policy AuthorizerFault → Option TokenAuthorizer → Bool
+is_let_by arn given None = true
+is_let_by arn given (Some a) = lets_by arn given
 
 -- a call is authorized: its method has no authorizer, or it hands in a good token, with which the authorizer lets it by
 abbrev pub is_authorized : Definition → Request → Target → ℕ → Result Policy AuthorizerFault → Token → Bool
 is_authorized d r t method given token.None = true
 is_authorized d r t method given token.Bad = false
-is_authorized d r t method given (token.Taken text) = is_let_by (arn_of t r.method) text given (authorizer_of d method)
+is_authorized d r t method given (token.Taken text) = is_let_by (arn_of t r.method) given (authorizer_of d method)
 
 -- a route hits a method that asks for a key, and the call is authorized
 abbrev pub hits_keyed : Definition → Request → Target → Result Policy AuthorizerFault → Route → Bool

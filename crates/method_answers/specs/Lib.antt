@@ -6,6 +6,8 @@ pub mod Failing
 pub mod Outcomes
 -- methods that ask for a key
 pub mod Keys
+-- what an authorizer is asked about a call
+pub mod Questions
 -- what a request to an API that is a document comes to
 pub mod Plans
 -- the causes that answers name

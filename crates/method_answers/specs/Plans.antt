@@ -3,12 +3,10 @@ use Rattle.std.specs.Prelude.{ℕ, Bool, true, false, List, [], slice_get, Optio
 use Rattle.std.specs.Option.{option_map, unwrap_or}
 use Rattle.api_model.specs.Definition.{Definition, parts_of}
 use Rattle.api_model.specs.Getters.{authorizer_of}
-use Rattle.api_parts.specs.declared.parts.Authorizer.{Authorizer}
 use Rattle.api_parts.specs.declared.parts.TokenAuthorizer.{TokenAuthorizer}
 use Rattle.api_resources.specs.Resources.{path_of}
 use Rattle.authorizer_call.specs.Names.{arn_of}
 use Rattle.authorizer_call.specs.Outcomes.{allows}
-use Rattle.authorizer_call.specs.Requests.{authorizer_request_of}
 use Rattle.authorizer_call.specs.declared.fault.AuthorizerFault.{AuthorizerFault}
 use Rattle.authorizer_call.specs.declared.fault.AuthorizerFault.TheVariants as fault
 use Rattle.backend_core.specs.declared.outcome.Outcome.{Outcome}
@@ -28,9 +26,9 @@ use Rattle.method_answers.specs.Calls.{Call}
 use Rattle.method_answers.specs.Failing.{failed_by}
 use Rattle.method_answers.specs.Keys.{key_required, key_value}
 use Rattle.method_answers.specs.Outcomes.{mapped_made, outcome_made, stopped}
+use Rattle.method_answers.specs.Questions.{Question, question_of}
 use Rattle.method_answers.specs.declared.keys.Admission.{Admission}
 use Rattle.method_answers.specs.declared.keys.Admission.TheVariants.{Admitted, Refused}
-use Rattle.method_answers.specs.declared.authorizing.Question.{Question}
 use Rattle.method_answers.specs.declared.plans.Course.{Course as Coursing}
 use Rattle.method_answers.specs.declared.plans.Course.TheVariants.{Free, Consults}
 use Rattle.method_answers.specs.declared.plans.Plan.{Plan}
@@ -128,14 +126,9 @@ abbrev pub judged : Call → List ℕ → Result Policy AuthorizerFault → Way
 judged c arn (Ok policy) = decided_by (allows (decision policy arn)) (with_policy c policy)
 judged c arn (Err why) = refused_by c (fault_kind why)
 
--- the authorizer is asked there. A definition that is read has no authorizer whose uri leads nowhere
-abbrev pub asked_by : Call → Authorizer → List ℕ → List ℕ → Option WireRequest → Course
-asked_by c a arn token None = free (refused_by c AuthorizerConfigurationError)
-asked_by c a arn token (Some request) = consults c.target (record { authorizer = a.name; token = token; ttl = a.ttl; request = request }) (judged c arn)
-
 abbrev pub asked : Call → List ℕ → List ℕ → Option TokenAuthorizer → Course
 asked c arn token None = free (let_by c)
-asked c arn token (Some a) = asked_by c a.authorizer arn token (authorizer_request_of a.authorizer token arn)
+asked c arn token (Some a) = consults c.target (question_of a.authorizer token arn) (judged c arn)
 
 -- by the token that the call hands in: a token is taken for an authorizer alone
 abbrev pub authorized : Call → Token → Course

@@ -2,8 +2,7 @@
 ghost use Rattle.std.specs.Prelude.{◌≡◌, ◌≢◌, IfOk, Ok, Err};
 ghost use Rattle.api_model.specs.Getters.{authorizer_of};
 ghost use Rattle.authorizer_call.specs.Names.{arn_of};
-ghost use Rattle.authorizer_call.specs.Requests.{authorizer_request_of};
-ghost use Rattle.method_answers.specs.Plans.{asked, asked_by, authorized, course_of, decided_by, fault_kind, judged, refused_by, way_of};
+ghost use Rattle.method_answers.specs.Plans.{asked, authorized, course_of, decided_by, fault_kind, judged, refused_by, way_of};
 ghost use Rattle.method_checks.specs.Tokens.{token_of};
 
 use crate::calls::RoutedCall;
@@ -18,29 +17,24 @@ use gw_base::{Memory, Shared, Text};
 use method_checks::{Token, token};
 use policy_core::Policy;
 use std::alloc::Global;
+use std::marker::Model;
 
-/// What an authorizer is asked about a call. Its policy may be remembered under its name and the token, at the stage that is called.
-#[derive(Drop)]
-pub struct Question {
-    /// The name of the authorizer.
-    pub authorizer: Text,
-    /// The token that the call hands in.
-    pub token: Text,
-    /// For how many seconds the policy may be remembered; 0 where it may not be.
-    pub ttl: u32,
-    /// What is sent.
-    pub request: WireRequest,
-}
-
-/// A call whose authorizer must give a policy first.
+/// A call whose authorizer must give a policy first. The policy may be remembered under the authorizer's name and the token, at the
+/// stage that is called; the request is made where it is asked for alone.
 #[derive(Drop)]
 pub struct Authorizing<'a> {
-    /// The call, before its key.
-    pub call: RoutedCall<'a>,
-    /// The name of what is called, of which policies speak.
-    pub arn: Text,
-    /// What the authorizer is asked.
-    pub question: Question,
+    pub(crate) call: RoutedCall<'a>,
+    pub(crate) arn: Text,
+    pub(crate) authorizer: &'a Authorizer,
+    pub(crate) token: Text,
+}
+
+impl<'a> Model for Authorizing<'a> {
+    ghost use Rattle.method_answers.specs.Questions.{Consulting, question_of};
+
+    ghost Value = { Consulting };
+
+    ghost view = { λ a. record { call = a.call; arn = a.arn; question = question_of a.authorizer.now a.token a.arn } };
 }
 
 fn refuse<'a>(alloc: Global, call: &RoutedCall<'a>, kind: Kind) -> Result<Way<'a>, Memory>
@@ -79,6 +73,50 @@ impl<'a> Authorizing<'a> {
         self.call.target
     }
 
+    /// The place of the call's first entry in the history.
+    pub fn place(&self) -> u64
+        ensures { result ≡ self.now.call.facts.place }
+    {
+        self.call.place()
+    }
+
+    /// The name of the authorizer.
+    pub fn authorizer(&self) -> &Text
+        ensures { result.now ≡ self.now.question.authorizer }
+    {
+        &self.authorizer.name
+    }
+
+    /// The token that the call hands in.
+    pub fn token(&self) -> &Text
+        ensures { result.now ≡ self.now.question.token }
+    {
+        &self.token
+    }
+
+    /// For how many seconds the policy may be remembered; 0 where it may not be.
+    pub fn ttl(&self) -> u32
+        ensures { result ≡ self.now.question.ttl }
+    {
+        self.authorizer.ttl
+    }
+
+    /// The request that asks the authorizer; `None` where its uri leads nowhere, which that of no definition does that was read.
+    ///
+    /// # Errors
+    ///
+    /// [`Memory`] where there is no memory for it.
+    pub fn request(&self, alloc: Global) -> Result<Option<WireRequest>, Memory>
+        ensures { IfOk result (λ request. request ≡ self.now.question.request) }
+    {
+        authorizer_request(
+            alloc,
+            self.authorizer,
+            self.token.as_str(),
+            self.arn.as_str(),
+        )
+    }
+
     /// What the call comes to by this policy: where it allows the call by its name, the call goes on, and the policy is known of
     /// it; else it is answered by `ACCESS_DENIED`.
     ///
@@ -107,31 +145,6 @@ impl<'a> Authorizing<'a> {
     }
 }
 
-// Where the authorizer's uri leads somewhere, it is asked there.
-fn ask<'a>(
-    alloc: Global,
-    call: RoutedCall<'a>,
-    authorizer: &Authorizer,
-    arn: Text,
-    token: Text,
-) -> Result<Course<'a>, Memory>
-    ensures { IfOk result (λ course. course_of course ≡ asked_by call.entry authorizer.now arn token (authorizer_request_of authorizer.now token arn)) }
-{
-    match authorizer_request(alloc, authorizer, token.as_str(), arn.as_str())? {
-        Some(request) => Ok(Course::Consults(Authorizing {
-            call,
-            arn,
-            question: Question {
-                authorizer: authorizer.name.copy(alloc)?,
-                token,
-                ttl: authorizer.ttl,
-                request,
-            },
-        })),
-        None => Ok(Course::Free(refuse(alloc, &call, Kind::AuthorizerConfigurationError)?)),
-    }
-}
-
 // Behind its token.
 fn plan_asked<'a>(alloc: Global, call: RoutedCall<'a>, token: Text) -> Result<Course<'a>, Memory>
     ensures { IfOk result (λ course. course_of course ≡ asked call.entry (arn_of call.entry.target call.entry.request.method) token (authorizer_of call.entry.definition call.entry.method)) }
@@ -139,7 +152,12 @@ fn plan_asked<'a>(alloc: Global, call: RoutedCall<'a>, token: Text) -> Result<Co
     match call.api.authorizer(call.method) {
         Some(authorizer) => {
             let name = arn(alloc, call.target, call.request.method.as_str())?;
-            ask(alloc, call, authorizer, name, token)
+            Ok(Course::Consults(Authorizing {
+                call,
+                arn: name,
+                authorizer,
+                token,
+            }))
         }
         None => Ok(Course::Free(plan_let_by(alloc, call)?)),
     }

@@ -5,7 +5,7 @@
 //! ```text
 //! let way = match plan_method(alloc, &api, &request, &target, facts)? {
 //!     Course::Free(way) => way,
-//!     Course::Consults(asking) => match ask(asking.target(), &asking.question) {   // a policy, or AuthorizerFault::Failure
+//!     Course::Consults(asking) => match ask(asking.request(alloc)?) {   // a policy, or AuthorizerFault::Failure
 //!         Ok(policy) => asking.judged_by(alloc, policy)?,     // 403, x-gateway-cause: ACCESS_DENIED, where it does not allow
 //!         Err(fault) => asking.failed(alloc, fault)?,         // 500, x-gateway-cause: AUTHORIZER_FAILURE
 //!     },
@@ -60,7 +60,8 @@
 //! `specs/Outcomes.antt`. Want of memory alone has no cause. As a law ([`laws`]), each of these answers names the one cause that it
 //! has, and one without a cause names none, whatever an authorizer gives and a backend replied; the kinds of a refused admission
 //! come of one alone; and an admission is asked for exactly where the method asks for a key and its authorizer, where it has one,
-//! lets the call by. Left out: the exchange with an authorizer, policies that are remembered, and what decides an admission.
+//! lets the call by. The request to an authorizer is made by [`Authorizing::request`] alone, so a policy that is remembered costs none.
+//! Left out: the exchange with an authorizer, policies that are remembered, and what decides an admission.
 #![tactic(auto)]
 
 mod authorizing;
@@ -72,7 +73,7 @@ mod outcomes;
 mod planning;
 mod plans;
 
-pub use authorizing::{Authorizing, Question};
+pub use authorizing::Authorizing;
 pub use calls::RoutedCall;
 pub use keys::{Admission, Keyed};
 pub use planning::plan_method;

@@ -71,21 +71,24 @@ const ASKED: [Asked; 8] = [
     ),
 ];
 
+fn sent_told(alloc: Global, asking: &Authorizing) -> Result<String, Memory> {
+    let sent = match asking.request(alloc)? {
+        Some(request) => String::from_utf8_lossy(alloc, request.bytes.as_slice())?,
+        None => String::from_str(alloc, "nothing")?,
+    };
+    Ok(sent)
+}
+
 fn question_told(alloc: Global, asking: &Authorizing) -> Result<String, Memory> {
     let target = asking.target();
-    let question = &asking.question;
-    let sent = match std::str::from_utf8(question.request.bytes.as_slice()) {
-        Ok(sent) => sent,
-        Err(_) => "no text",
-    };
     Ok(format!(in alloc;
         "{}/{} asks {} about {} for {} s\n{}",
         target.api.as_str(),
         target.stage.as_str(),
-        question.authorizer.as_str(),
-        question.token.as_str(),
-        question.ttl,
-        sent
+        asking.authorizer().as_str(),
+        asking.token().as_str(),
+        asking.ttl(),
+        sent_told(alloc, asking)?.as_str()
     )?)
 }
 

@@ -970,6 +970,18 @@ def the_pets_are_called(server):
     expect("petstore.sh", (ended.returncode, sorted(ended.stdout.splitlines())), (0, sorted(lines)))
 
 
+def the_keyed_api_is_called(server):
+    """The example with a key and a plan. A month that ends within it begins the count again; then it is played once more."""
+    said = b'{"reply":"deployed 1"}\n' + 4 * b'{"reply":"done"}\n'
+    said += b'403 INVALID_API_KEY\n200 hello ann\n200 hello ann\n429 QUOTA_EXCEEDED\n{"reply":"done"}\n200 hello ann\n'
+    month = time.gmtime().tm_mon
+    ended = None
+    while ended is None or month != time.gmtime().tm_mon:
+        month = time.gmtime().tm_mon
+        ended = subprocess.run([f"{TOP}/examples/keyed.sh", server.program, free_port()], stdin=subprocess.DEVNULL, capture_output=True, timeout=WAIT)
+    expect("keyed.sh", (ended.returncode, ended.stdout), (0, said))
+
+
 def the_guarded_api_is_called(server):
     """The example with an authorizer of its own."""
     script = f"{TOP}/examples/guarded.sh"
@@ -1227,6 +1239,7 @@ TESTS = [
     a_policy_is_remembered_for_its_seconds,
     an_order_goes_through_all_its_checks,
     the_pets_are_called,
+    the_keyed_api_is_called,
     the_guarded_api_is_called,
     the_examples_do_what_stands_beside_them,
     broken_clients_harm_no_other,

@@ -2,7 +2,9 @@
 //!
 //! * [`serve_connection`] serves the messages of one connection, in order. Each enters the book at the stage that its target
 //!   names, is answered by the view that its Enter was replied, and leaves before the first byte of its answer is written. One to a
-//!   method that asks for a key asks the book once to admit it, before its checks.
+//!   method that has an authorizer is pursued first: the book is asked for the policy that is remembered, the authorizer where none is,
+//!   and what it gave is learned before it decides. One to a method that asks for a key asks the book once to admit it, before its
+//!   checks.
 //! * [`serve_lane`] serves the connections of one lane, one after another, each through [`serve_connection`].
 //!
 //! ```text
@@ -18,6 +20,8 @@
 //! | with bytes that are no message | 400 or 431, `connection: close` | `BadHead`, `BadChunk`, `HeadTooLong` |
 //! | a read of which fails | the answers to the messages in what was taken | `ReadFault` |
 //! | a write of which fails | a front of the last answer | `WriteFault` |
+//! | whose message hands in no good token, or one by whose policy it is denied | 401 and `UNAUTHORIZED`, or 403 and `ACCESS_DENIED` | as one that is answered else |
+//! | whose message's authorizer gives no policy | 500 and `AUTHORIZER_FAILURE`, or `AUTHORIZER_CONFIGURATION_ERROR` | as one that is answered else |
 //! | whose message no key admits | 403 and `INVALID_API_KEY`, 429 and `THROTTLED` or `QUOTA_EXCEEDED`, or 500 and `STORE_FAILURE` | as one that is answered else |
 //! | at whose message the session is full | 503, `connection: close` | `SessionFull` with its numbers |
 //!

@@ -130,8 +130,8 @@ pub(crate) fn plan_let_by<'a>(alloc: Global, call: RoutedCall<'a>) -> Result<Way
 ///
 /// # Errors
 ///
-/// [`Memory`] where there is no memory for the route, for the token, for the request to the authorizer, for the checks, for the
-/// request to the backend or for the answer.
+/// [`Memory`] where there is no memory for the route, for the token, for the name of the call, for the checks, for the request to the
+/// backend or for the answer.
 #[tactic(auto, unfolding(crate::specs::Plans::planned))]
 pub fn plan_method<'a>(
     alloc: Global,

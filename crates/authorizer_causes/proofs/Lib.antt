@@ -1,0 +1,4 @@
+-- answers that no authorizer has part in
+mod Free
+-- an authorizer's answers
+mod Telling

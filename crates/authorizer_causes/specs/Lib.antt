@@ -1,0 +1,2 @@
+-- behind what an authorizer's answers stand
+pub mod Laws

@@ -2,7 +2,6 @@
 ghost use Rattle.authorizer_causes.specs.Laws.{TellsItsAuthorizer};
 
 /// An answer with one of the four kinds that an authorizer's part of a way comes to stands behind what the table says of it.
-#[tactic(auto, using(crate::proofs::Telling::stands_behind_its_cause))]
 pub fn an_authorizers_answer_stands_behind_its_cause()
     ensures { TellsItsAuthorizer }
 {}

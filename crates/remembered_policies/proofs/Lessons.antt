@@ -202,9 +202,11 @@ event_left state (Leave status cause) name what e = old tt refl e
 pub lesson_in : (state : State) (entries : List Entry) (name : PolicyName) (what : Learned) → standing name state.happened ≡ None → standing name (state_of state entries).happened ≡ Some what
     → LessonIn state entries name what
 lesson_in state [] name what none e = let no : None ≡ Some what = sym none ∙ e in absurd cc
-lesson_in state (newest ∷ older) name what none e = by (event_left (state_of state older) newest.event name what e)
+lesson_in state (newest ∷ older) name what none e =
+    by (event_left (state_of state older) newest.event name what e) (λ before. lesson_in state older name what none before)
   where
-    by : Left (state_of state older) newest.event name what → LessonIn state (newest ∷ older) name what
-    by (own moment learns at) =
+    by : Left (state_of state older) newest.event name what → (standing name (state_of state older).happened ≡ Some what → LessonIn state older name what)
+        → LessonIn state (newest ∷ older) name what
+    by (own moment learns at) there =
         record { behind = []; lesson = newest; before = older; moment = moment; parts = refl; learns = learns; at = at; last = tt; stands = tt }
-    by (old none_here kept before) = further state newest older name what none_here kept (lesson_in state older name what none before)
+    by (old none_here kept before) there = further state newest older name what none_here kept (there before)

@@ -45,6 +45,7 @@ in_parts happened name t policy e = pick (list_any (same_name name) (latest_name
     told : (what : Learned) (b : Bool) → nat_lt t (what.at + 1000 * what.ttl) ≡ b → cond b (Some what.policy) None ≡ Some policy → (t < what.at + 1000 * what.ttl) × (what.policy ≡ policy)
     told what true below f = (ltb-true t (what.at + 1000 * what.ttl) below, some_same what.policy policy f)
     told what false below f = absurd cc
+
     pick : (b : Bool) (o : Option Learned) → list_any (same_name name) (latest_names happened) ≡ b → standing name happened ≡ o → cond b (option_and_then (usable t) o) None ≡ Some policy
         → Parts happened name t policy
     pick true (Some what) among stands f =
@@ -138,15 +139,15 @@ nothing_else opening history name policy moment kept e =
     let s = opened opening in
     let t = time_of (state_after opening history) moment in
     let found : remembered (state_of s (reverse history)).happened name t ≡ Some policy =
-        sym (ap (λ (state : State). remembered state.happened name t) (after_it opening history)) ∙ told_policy (remembered (state_after opening history).happened name t) policy e in
+    sym (ap (λ (state : State). remembered state.happened name t) (after_it opening history)) ∙ told_policy (remembered (state_after opening history).happened name t) policy e in
     let parts : Parts (state_of s (reverse history)).happened name t policy = in_parts (state_of s (reverse history)).happened name t policy found in
     let there : LessonIn s (reverse history) name parts.what = lesson_in s (reverse history) name parts.what refl parts.stands in
     let back : reverse (reverse there.behind) ≡ there.behind = reverse-reverse there.behind in
     let learns : there.lesson.event ≡ Learn there.moment name policy parts.what.ttl = there.learns ∙ ap (λ p. Learn there.moment name p parts.what.ttl) parts.is in
     let rest = learned_names (state_of s there.before).happened in
     let among : list_any (same_name name) (take 1024 (each_once (names_in there.behind ++ name ∷ rest))) ≡ true =
-        sym (ap (λ l. list_any (same_name name) (take 1024 (each_once l)))
-        (ap (λ l. learned_names (state_of s l).happened) there.parts ∙ names_behind s there.behind there.lesson there.before there.moment name policy parts.what.ttl learns)) ∙ parts.among in
+    sym (ap (λ l. list_any (same_name name) (take 1024 (each_once l)))
+    (ap (λ l. learned_names (state_of s l).happened) there.parts ∙ names_behind s there.behind there.lesson there.before there.moment name policy parts.what.ttl learns)) ∙ parts.among in
     record {
       before = reverse there.before;
       lesson = there.lesson;

@@ -1,11 +1,10 @@
 // What is kept between two messages.
-ghost use Rattle.std.specs.Prelude.{◌≡◌, ◌≢◌, ◌≤◌, [], None, OnOk, length};
+ghost use Rattle.std.specs.Prelude.{◌≡◌, ◌≢◌, [], None};
 ghost use Rattle.std.specs.Bool.{MatchBool};
 ghost use Rattle.http_edge.specs.Buffers.{emptied};
 
-use gw_base::Memory;
-use http_framing::{EdgeFault, ROOM, ReadAhead};
-use httparse::spans::{EMPTY_HEADER_SPAN, HeaderSpan};
+use http_framing::{EdgeFault, ReadAhead};
+use httparse::spans::HeaderSpan;
 use std::alloc::Global;
 use std::marker::Model;
 
@@ -53,14 +52,4 @@ impl Buffer {
         self.room = Vec::new(alloc);
         self.fault = Some(fault);
     }
-}
-
-/// Room for the fields of a head, which is taken once for a connection.
-pub(crate) fn make_room(alloc: Global, room: &mut Vec<HeaderSpan>) -> Result<(), Memory>
-    ensures { OnOk result (3414 ≤ length room.new.items) }
-{
-    if room.len() < ROOM {
-        *room = Vec::from_elem(alloc, EMPTY_HEADER_SPAN, ROOM)?;
-    }
-    Ok(())
 }

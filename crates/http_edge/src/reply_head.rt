@@ -1,5 +1,5 @@
 // The head of a reply, and those of the interim replies before it.
-ghost use Rattle.std.specs.Prelude.{◌≡◌, ◌≤◌, ◌<◌, ◌^◌, ◌&&◌, length, take, drop, nat_lt, IfErr, IfOk, IsErrOf, OnErr, OnOk};
+ghost use Rattle.std.specs.Prelude.{◌≡◌, ◌≤◌, ◌<◌, ◌^◌, ◌&&◌, take, drop, nat_lt, IfErr, IfOk, IsErrOf, OnErr, OnOk};
 ghost use Rattle.httparse.specs.Grammar.{ResponseHead, print_response};
 ghost use Rattle.httparse.specs.Spans.{IsResponseAt, IsResponseOf, IsResponseWithin};
 ghost use Rattle.gw_base.specs.Outside.{Rose};
@@ -8,7 +8,6 @@ ghost use Rattle.http_framing.specs.Stream.{Over, Takes};
 ghost use Rattle.http_edge.specs.Replies.{serves};
 ghost use Rattle.http_edge.specs.ReplyReads.{FinalRead, IsReplyBegun, ReplyHeadRead};
 
-use crate::buffer::make_room;
 use crate::texts::headers;
 use gw_base::{Memory, Seq, Source, Text};
 use http_framing::{EdgeFault, Framing, HEAD_LIMIT, ReadAhead, await_reply_head, reply_framing};
@@ -82,25 +81,23 @@ fn read_reply_head<S: Source>(
     alloc: Global,
     source: &mut S,
     held: &mut ReadAhead,
-    room: &mut [HeaderSpan],
+    room: &mut Vec<HeaderSpan>,
     limit: usize,
 ) -> Result<ReplyBegun, EdgeFault>
-    requires room { 3414 ≤ length room.old }
-    requires limit { limit ≤ 10240 }
+    requires { limit ≤ 10240 }
     ensures head { Over (ReplyHeadRead limit) held.old (S.left source.old) held.new (S.left source.new) result }
     ensures short { IfOk result (λ b. (0 < b.len) × (b.len ≤ limit)) }
     ensures few { IfErr result (CutBelow (2 ^ 63)) }
-    ensures room { length room.new ≡ length room.old }
     ensures taken { Takes (S.left source.old) (S.left source.new) }
     ensures fault { IsErrOf result EdgeFault.ReadFault → Rose (S.faults source.old) (S.faults source.new) }
     ensures later { S.faults source.old ≤ S.faults source.new }
     ensures beside { S.beside source.new ≡ S.beside source.old }
 {
-    let spans = match await_reply_head(source, held, room, limit) {
+    let spans = match await_reply_head(alloc, source, held, room, limit) {
         Ok(spans) => spans,
         Err(fault) => return Err(fault),
     };
-    match begin(alloc, held, &spans, room, limit) {
+    match begin(alloc, held, &spans, room.as_slice(), limit) {
         Ok(begun) => Ok(begun),
         Err(_) => Err(EdgeFault::Memory),
     }
@@ -124,14 +121,13 @@ fn behind(begun: ReplyBegun, len: u64) -> ReplyBegun
     }
 }
 
-// Reads heads in this room up to that of the reply, and uses them.
-fn read_final_in<S: Source>(
+/// Reads heads up to that of the reply, and uses them. Its `len` is that of all of them.
+pub fn read_final_head<S: Source>(
     alloc: Global,
     source: &mut S,
     held: &mut ReadAhead,
-    room: &mut [HeaderSpan],
+    room: &mut Vec<HeaderSpan>,
 ) -> Result<ReplyBegun, EdgeFault>
-    requires room { 3414 ≤ length room.old }
     ensures head { Over FinalRead held.old (S.left source.old) held.new (S.left source.new) result }
     ensures short { IfOk result (λ b. b.len ≤ 10240) }
     ensures taken { Takes (S.left source.old) (S.left source.new) }
@@ -151,25 +147,4 @@ fn read_final_in<S: Source>(
             Err(fault) => return Err(fault.shifted(gone as u64)),
         }
     }
-}
-
-/// Reads heads up to that of the reply, and uses them. Its `len` is that of all of them.
-pub fn read_final_head<S: Source>(
-    alloc: Global,
-    source: &mut S,
-    held: &mut ReadAhead,
-    room: &mut Vec<HeaderSpan>,
-) -> Result<ReplyBegun, EdgeFault>
-    ensures head { Over FinalRead held.old (S.left source.old) held.new (S.left source.new) result }
-    ensures short { IfOk result (λ b. b.len ≤ 10240) }
-    ensures taken { Takes (S.left source.old) (S.left source.new) }
-    ensures fault { IsErrOf result EdgeFault.ReadFault → Rose (S.faults source.old) (S.faults source.new) }
-    ensures later { S.faults source.old ≤ S.faults source.new }
-    ensures beside { S.beside source.new ≡ S.beside source.old }
-{
-    match make_room(alloc, room) {
-        Ok(()) => {}
-        Err(_) => return Err(EdgeFault::Memory),
-    }
-    read_final_in(alloc, source, held, room.as_mut_slice())
 }

@@ -1,5 +1,5 @@
 // The head of a request.
-ghost use Rattle.std.specs.Prelude.{◌≡◌, ◌≤◌, [], length, take, drop, IfOk, IsErrOf, OnErr, OnOk};
+ghost use Rattle.std.specs.Prelude.{◌≡◌, ◌≤◌, [], take, drop, IfOk, IsErrOf, OnErr, OnOk};
 ghost use Rattle.httparse.specs.Grammar.{RequestHead};
 ghost use Rattle.httparse.specs.Spans.{IsRequestAt, IsRequestOf, IsRequestWithin};
 ghost use Rattle.gw_base.specs.Outside.{Rose};
@@ -7,7 +7,6 @@ ghost use Rattle.http_framing.specs.Stream.{Over, Takes};
 ghost use Rattle.http_edge.specs.Messages.{request_of, with_body};
 ghost use Rattle.http_edge.specs.Reads.{HeadRead, IsBegun};
 
-use crate::buffer::make_room;
 use crate::texts::{headers, lossy};
 use call_facts::Request;
 use gw_base::{Bytes, Memory, Source};
@@ -67,31 +66,6 @@ fn begin(
     })
 }
 
-// Reads the head that stands next, in this room, and uses it.
-fn read_head_in<S: Source>(
-    alloc: Global,
-    source: &mut S,
-    held: &mut ReadAhead,
-    room: &mut [HeaderSpan],
-) -> Result<Begun, EdgeFault>
-    requires room { 3414 ≤ length room.old }
-    ensures head { Over HeadRead held.old (S.left source.old) held.new (S.left source.new) result }
-    ensures short { IfOk result (λ b. b.len ≤ 10240) }
-    ensures taken { Takes (S.left source.old) (S.left source.new) }
-    ensures fault { IsErrOf result EdgeFault.ReadFault → Rose (S.faults source.old) (S.faults source.new) }
-    ensures later { S.faults source.old ≤ S.faults source.new }
-    ensures beside { S.beside source.new ≡ S.beside source.old }
-{
-    let spans = match await_request_head(source, held, room) {
-        Ok(spans) => spans,
-        Err(fault) => return Err(fault),
-    };
-    match begin(alloc, held, &spans, room) {
-        Ok(begun) => Ok(begun),
-        Err(_) => Err(EdgeFault::Memory),
-    }
-}
-
 /// Reads the head that stands next, and uses it.
 pub fn read_head<S: Source>(
     alloc: Global,
@@ -106,11 +80,14 @@ pub fn read_head<S: Source>(
     ensures later { S.faults source.old ≤ S.faults source.new }
     ensures beside { S.beside source.new ≡ S.beside source.old }
 {
-    match make_room(alloc, room) {
-        Ok(()) => {}
-        Err(_) => return Err(EdgeFault::Memory),
+    let spans = match await_request_head(alloc, source, held, room) {
+        Ok(spans) => spans,
+        Err(fault) => return Err(fault),
+    };
+    match begin(alloc, held, &spans, room.as_slice()) {
+        Ok(begun) => Ok(begun),
+        Err(_) => Err(EdgeFault::Memory),
     }
-    read_head_in(alloc, source, held, room.as_mut_slice())
 }
 
 /// The request with this body.

@@ -1,5 +1,5 @@
--- How many fields so many bytes can hold.
-use Rattle.std.proofs.Common.{ℕ, ◌+◌, ◌*◌, ◌<◌, ◌≤◌, List, [], ◌∷◌, All, length, arith, ap, inl, inr, length-append}
+-- How many bytes so many fields have.
+use Rattle.std.proofs.Common.{ℕ, ◌+◌, ◌*◌, ◌≤◌, List, [], ◌∷◌, All, length, arith, ap, inl, inr, length-append}
 use Rattle.std.specs.List.{flat_map}
 use Rattle.std.proofs.lemmas.List.Elements.{All-head, All-tail}
 use Rattle.httparse.specs.Grammar.{Field, IsField, LineEnd, crlf, lf, print_end, print_field, RequestHead, print_request, ResponseHead, print_response, MayBecomeRequest, HasNoRequest}
@@ -22,8 +22,8 @@ pub head_long : (h : RequestHead) → All IsField h.fields → 3 * length h.fiel
 unfolding print_request
 head_long h ok = omega (arith, fields_long h.fields ok, end_long h.last, length-append {A = ℕ})
 
-pub none_exceeds : (room : ℕ) (buf : List ℕ) → length buf < 3 * room + 3 → ¬ (RequestExceeds room buf)
-none_exceeds room buf small (front, rest, cut, h, reads, over) =
+pub exceeds_long : (room : ℕ) (buf : List ℕ) → RequestExceeds room buf → 3 * room + 3 ≤ length buf
+exceeds_long room buf (front, rest, cut, h, reads, over) =
     omega (arith, head_long h reads.0.fields, ap length cut, ap length reads.1, length-append {A = ℕ})
 
 pub unfinished_is : (buf : List ℕ) → HasNoRequest buf → MayBecomeRequest buf → IsUnfinished buf
@@ -36,6 +36,6 @@ pub reply_long : (h : ResponseHead) → All IsField h.fields → 3 * length h.fi
 unfolding print_response
 reply_long h ok = omega (arith, fields_long h.fields ok, end_long h.last, length-append {A = ℕ})
 
-pub none_exceeds_reply : (room : ℕ) (buf : List ℕ) → length buf < 3 * room + 3 → ¬ (ResponseExceeds room buf)
-none_exceeds_reply room buf small (front, rest, cut, h, reads, over) =
+pub exceeds_long_reply : (room : ℕ) (buf : List ℕ) → ResponseExceeds room buf → 3 * room + 3 ≤ length buf
+exceeds_long_reply room buf (front, rest, cut, h, reads, over) =
     omega (arith, reply_long h reads.0.fields, ap length cut, ap length reads.1, length-append {A = ℕ})

@@ -10,6 +10,14 @@ use Rattle.http_framing.specs.Heads.{IsBadHead, IsUnfinished}
 use Rattle.http_framing.specs.ReplyHeads.{MayBecomeReply}
 use Rattle.http_framing.specs.declared.fault.EdgeFault.{EdgeFault}
 use Rattle.http_framing.specs.declared.fault.EdgeFault.TheVariants.{BadHead, HeadTooLong, BadChunk, Cut, ReadFault, Memory}
+use Rattle.http_framing.specs.declared.front.Front.{Front}
+use Rattle.http_framing.specs.declared.front.Front.TheVariants.{Head, Unfinished, Bad}
+
+-- what a look at the front of bytes found
+abbrev pub IsFront : List ℕ → List HeaderSpan → Front RequestSpans → Type 0
+IsFront buf room (Head spans) = IsRequestOf buf room spans × IsRequestWithin buf room spans
+IsFront buf room Unfinished = IsUnfinished buf
+IsFront buf room Bad = IsBadHead buf
 
 -- what is held and left once a request's head was awaited
 abbrev pub HeadTaken : List ℕ → List HeaderSpan → Option (List ℕ) → Result RequestSpans EdgeFault → Type 0
@@ -20,6 +28,12 @@ HeadTaken held room left (Err (Cut n)) = IsUnfinished (take 10240 held) × (leng
 HeadTaken held room left (Err ReadFault) = IsUnfinished (take 10240 held) × (length held < 10240)
 HeadTaken held room left (Err Memory) = ⊤
 HeadTaken held room left (Err BadChunk) = ⊥
+
+-- the same of a reply
+abbrev pub IsReplyFront : List ℕ → List HeaderSpan → Front ResponseSpans → Type 0
+IsReplyFront buf room (Head spans) = IsResponseOf buf room spans × IsResponseWithin buf room spans
+IsReplyFront buf room Unfinished = MayBecomeReply buf
+IsReplyFront buf room Bad = NeverHasResponse buf
 
 -- the same of a reply's head within so many bytes
 abbrev pub ReplyTaken : ℕ → List ℕ → List HeaderSpan → Option (List ℕ) → Result ResponseSpans EdgeFault → Type 0

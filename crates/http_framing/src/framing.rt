@@ -7,7 +7,7 @@ ghost use Rattle.http_framing.specs.Framings.{eq_ignore_case, is_number, known_l
 use httparse::spans::HeaderSpan;
 
 /// The most fields of a head.
-const MAX_FIELDS: usize = 100;
+pub const MAX_FIELDS: usize = 100;
 
 /// The most digits of a `content-length`.
 const MAX_DIGITS: usize = 19;

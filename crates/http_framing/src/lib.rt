@@ -5,7 +5,7 @@
 //! [`reply_framing`] say what it tells of its body, and [`read_known`], [`read_chunked`] and [`read_rest`] read one.
 //!
 //! ```text
-//! let spans = await_request_head(&mut source, &mut held, &mut room)?;
+//! let spans = await_request_head(alloc, &mut source, &mut held, &mut room)?;
 //! let front = held.first(HEAD_LIMIT);
 //! let framing = framing_of(spans.version == 0, front, &room[..spans.headers]);
 //! held.skip(spans.len);
@@ -44,10 +44,12 @@ mod chunks;
 mod fault;
 mod fill;
 mod framing;
+mod front;
 pub mod laws;
 mod read_ahead;
 mod reply_head;
 mod request_head;
+mod room;
 mod target;
 mod trailers;
 
@@ -57,4 +59,4 @@ pub use fault::EdgeFault;
 pub use framing::{Framing, framing_of, reply_framing};
 pub use read_ahead::ReadAhead;
 pub use reply_head::await_reply_head;
-pub use request_head::{HEAD_LIMIT, ROOM, await_request_head};
+pub use request_head::{HEAD_LIMIT, await_request_head};

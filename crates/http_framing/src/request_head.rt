@@ -1,66 +1,74 @@
 // The head of a request, by the grammar of `httparse`.
-ghost use Rattle.std.specs.Prelude.{◌≡◌, ◌≢◌, ◌≤◌, ◌<◌, ◌^◌, ℕ, Err, IfErr, IsErrOf, length, take};
-ghost use Rattle.httparse.specs.Spans.{IsRequestOf, IsRequestWithin};
-ghost use Rattle.httparse.specs.declared.spans.RequestSpans.{RequestSpans};
+ghost use Rattle.std.specs.Prelude.{◌≡◌, ◌≢◌, ◌≤◌, ◌<◌, None, Err, IfOk, IfSome, IsErrOf, length};
 ghost use Rattle.gw_base.specs.Outside.{Rose};
-ghost use Rattle.http_framing.specs.Heads.{IsBadHead, IsUnfinished};
-ghost use Rattle.http_framing.specs.HeadReads.{HeadTaken};
+ghost use Rattle.http_framing.specs.HeadReads.{HeadTaken, IsFront};
 ghost use Rattle.http_framing.specs.Stream.{SameBytes, Takes};
 
 use crate::fault::EdgeFault;
 use crate::fill::{Filled, fill_line};
+use crate::framing::MAX_FIELDS;
+use crate::front::Front;
 use crate::read_ahead::ReadAhead;
+use crate::room::{ROOM, make_room};
 use crate::target::ends_in_target;
-use gw_base::Source;
+use gw_base::{Memory, Source};
 use httparse::Status;
 use httparse::spans::{HeaderSpan, RequestSpans, parse_request};
-
-/// More fields than the longest head can hold, since a field has three bytes at least. So the parser sees every field
-/// of a head, and a byte that no head can have is told before the fields are counted.
-pub const ROOM: usize = 3414;
+use std::alloc::Global;
 
 /// The most bytes of a head, its leading empty lines and its closing one included.
 pub const HEAD_LIMIT: usize = 10_240;
 
-// What stands at the front of a buffer.
-enum Front {
-    Head(RequestSpans),
-    Unfinished,
-    Bad,
-}
-
-fn read_front(buf: &[u8], room: &mut [HeaderSpan]) -> Front
-    requires small { length buf.now ≤ 10240 }
-    requires room { 3414 ≤ length room.old }
-    ensures head { (spans : RequestSpans) → result ≡ Front.Head spans → IsRequestOf buf.now room.new spans }
-    ensures within { (spans : RequestSpans) → result ≡ Front.Head spans → IsRequestWithin buf.now room.new spans }
-    ensures unfinished { result ≡ Front.Unfinished → IsUnfinished buf.now }
-    ensures bad { result ≡ Front.Bad → IsBadHead buf.now }
-    ensures len { length room.new ≡ length room.old }
+// What stands at the front of a buffer, or none where it has more fields than this room.
+fn front_in(buf: &[u8], room: &mut [HeaderSpan]) -> Option<Front<RequestSpans>>
+    requires { length buf.now ≤ 10240 }
+    ensures front { IfSome result (IsFront buf.now room.new) }
+    ensures none { result ≡ None → length room.old < 3414 }
 {
     match parse_request(buf, room) {
-        Ok(Status::Complete(head)) => Front::Head(head),
-        Ok(Status::Partial) => Front::Unfinished,
-        Err(httparse::Error::TooManyHeaders) => unreachable!(),
+        Ok(Status::Complete(head)) => Some(Front::Head(head)),
+        Ok(Status::Partial) => Some(Front::Unfinished),
+        Err(httparse::Error::TooManyHeaders) => None,
         Err(_) => {
             if ends_in_target(buf) {
-                Front::Unfinished
+                Some(Front::Unfinished)
             } else {
-                Front::Bad
+                Some(Front::Bad)
             }
         }
+    }
+}
+
+// What stands at the front of a buffer. Only a head of more than 100 fields, which is refused in the end, takes the large
+// room.
+fn read_front(
+    alloc: Global,
+    buf: &[u8],
+    room: &mut Vec<HeaderSpan>,
+) -> Result<Front<RequestSpans>, Memory>
+    requires { length buf.now ≤ 10240 }
+    ensures { IfOk result (IsFront buf.now room.new.items) }
+{
+    make_room(alloc, room, MAX_FIELDS)?;
+    if let Some(front) = front_in(buf, room.as_mut_slice()) {
+        return Ok(front);
+    }
+    make_room(alloc, room, ROOM)?;
+    match front_in(buf, room.as_mut_slice()) {
+        Some(front) => Ok(front),
+        None => unreachable!(),
     }
 }
 
 /// Reads until a request's head stands at the front of what is held, and answers where its parts are. A head is looked
 /// at before the first read, and then when a line ended, the limit came, or no more comes.
 pub fn await_request_head<S: Source>(
+    alloc: Global,
     source: &mut S,
     held: &mut ReadAhead,
-    room: &mut [HeaderSpan],
+    room: &mut Vec<HeaderSpan>,
 ) -> Result<RequestSpans, EdgeFault>
-    requires room { 3414 ≤ length room.old }
-    ensures head { HeadTaken held.new room.new (S.left source.new) result }
+    ensures head { HeadTaken held.new room.new.items (S.left source.new) result }
     ensures same { result ≢ Err EdgeFault.Memory → SameBytes held.old (S.left source.old) held.new (S.left source.new) }
     ensures taken { Takes (S.left source.old) (S.left source.new) }
     ensures fault { IsErrOf result EdgeFault.ReadFault → Rose (S.faults source.old) (S.faults source.new) }
@@ -69,10 +77,11 @@ pub fn await_request_head<S: Source>(
 {
     let mut filled = Filled::More;
     loop {
-        match read_front(held.first(HEAD_LIMIT), room) {
-            Front::Head(spans) => return Ok(spans),
-            Front::Bad => return Err(EdgeFault::BadHead),
-            Front::Unfinished => {}
+        match read_front(alloc, held.first(HEAD_LIMIT), room) {
+            Ok(Front::Head(spans)) => return Ok(spans),
+            Ok(Front::Bad) => return Err(EdgeFault::BadHead),
+            Ok(Front::Unfinished) => {}
+            Err(_) => return Err(EdgeFault::Memory),
         }
         if held.len() >= HEAD_LIMIT {
             return Err(EdgeFault::HeadTooLong);

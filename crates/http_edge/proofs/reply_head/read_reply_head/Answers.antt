@@ -5,12 +5,12 @@ use Rattle.http_edge.proofs.ReplySteps.{reply_stopped, reply_begun}
 use Rattle.http_edge.proofs.reply_head.read_reply_head.Goals as goal
 
 pub returns-in-Err-clause-head : goal.returns-in-Err-clause-head
-returns-in-Err-clause-head g c = reply_stopped _ _ c.await_reply_head.new.held _ c.args.limit c.await_reply_head.new.room c.in-Err.fault c.in-Err.ensures.head c.await_reply_head.ensures.taken (λ n. c.in-Err.ensures.same n)
+returns-in-Err-clause-head g c = reply_stopped _ _ c.await_reply_head.new.held _ c.args.limit c.await_reply_head.new.room.items c.in-Err.fault c.in-Err.ensures.head c.await_reply_head.ensures.taken (λ n. c.in-Err.ensures.same n)
 
 pub returns-in-Ok-begin-clause-head : goal.returns-in-Ok-begin-clause-head
 returns-in-Ok-begin-clause-head g c =
     let at = c.in-Ok.ensures.head.0 in
-    reply_begun _ _ c.await_reply_head.new.held _ _ c.args.limit c.await_reply_head.new.room c.in-Ok.spans at.0 c.in-Ok-begin.begun at.1 (c.in-Ok-begin.ensures.begun at.0 at.1) c.in-Ok-begin.ensures.len c.in-Ok-begin.ensures.used (c.in-Ok.ensures.same (λ e. cc))
+    reply_begun _ _ c.await_reply_head.new.held _ _ c.args.limit c.await_reply_head.new.room.items c.in-Ok.spans at.0 c.in-Ok-begin.begun at.1 (c.in-Ok-begin.ensures.begun at.0 (rw c.as_slice.ensures.value at.1)) c.in-Ok-begin.ensures.len c.in-Ok-begin.ensures.used (c.in-Ok.ensures.same (λ e. cc))
 
 pub returns-in-Ok-begin-clause-short : goal.returns-in-Ok-begin-clause-short
 returns-in-Ok-begin-clause-short g c =

@@ -9,7 +9,6 @@ pub loop-spans-preserved : goal.loop-spans-preserved
 loop-spans-preserved g c = record {
   same = search rules;
   taken = takes_both _ _ _ c.loop-spans.invariant.taken c.fill_line-filled.ensures.taken;
-  room = search rules;
   end = search rules;
   rose = search rules;
   later = search rules;

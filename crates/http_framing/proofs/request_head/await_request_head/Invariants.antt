@@ -12,7 +12,6 @@ invariant-loop-spans g l =
     record {
       same : SameBytes l.fn.held (left l.fn.source) l.held (left l.source);
       taken : Takes (left l.fn.source) (left l.source);
-      room : 3414 ≤ length l.room;
       end : l.filled ≡ End → IsAtEnd (left l.source);
       rose : l.filled ≡ Fault → Rose (g.S.Source.faults l.fn.source) (g.S.Source.faults l.source);
       later : g.S.Source.faults l.fn.source ≤ g.S.Source.faults l.source;

@@ -6,7 +6,7 @@ use Rattle.http_framing.proofs.Overs.{over_both, takes_both}
 use Rattle.http_edge.specs.ReplyReads.{ReplyHeadRead, PassedOver, FinalRead}
 use Rattle.http_edge.specs.declared.reply_head.ReplyBegun.{ReplyBegun}
 use Rattle.http_edge.proofs.ReplyJoins.{passed_more, final_done, final_fault}
-use Rattle.http_edge.proofs.reply_head.read_final_in.Goals as goal
+use Rattle.http_edge.proofs.reply_head.read_final_head.Goals as goal
 
 abbrev stop : EdgeFault → Result ReplyBegun EdgeFault
 stop f = Err f
@@ -19,7 +19,6 @@ loop-begun-preserved g c =
       far = over_both (PassedOver gone) (ReplyHeadRead (10240 - gone)) (PassedOver (gone + b.len)) _ _ c.loop-begun.held _ c.read_reply_head.new.held _ tt (Ok b) tt
           c.loop-begun.invariant.far c.in-Ok.ensures.head (λ all m l n k. passed_more b gone all m l n k c.loop-begun.invariant.near (sym c.is_interim.ensures ∙ c.if-not-is_interim.false));
       near = omega (arith, c.in-Ok.ensures.short.1, c.loop-begun.invariant.near);
-      room = omega (arith, c.read_reply_head.ensures.room, c.loop-begun.invariant.room);
       taken = takes_both _ _ _ c.loop-begun.invariant.taken c.read_reply_head.ensures.taken;
       later = omega (arith, c.loop-begun.invariant.later, c.read_reply_head.ensures.later);
       beside = c.read_reply_head.ensures.beside ∙ c.loop-begun.invariant.beside;

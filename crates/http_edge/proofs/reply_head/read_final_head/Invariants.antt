@@ -1,7 +1,7 @@
-use Rattle.std.proofs.Common.{◌≡◌, ◌≤◌, ◌-◌, length}
+use Rattle.std.proofs.Common.{◌≡◌, ◌≤◌, ◌-◌}
 use Rattle.http_framing.specs.Stream.{Over, Takes}
 use Rattle.http_edge.specs.ReplyReads.{PassedOver}
-use Rattle.http_edge.proofs.reply_head.read_final_in.Given as goal
+use Rattle.http_edge.proofs.reply_head.read_final_head.Given as goal
 
 -- the heads of interim replies were passed over
 abbrev pub invariant-loop-begun : goal.invariant-loop-begun
@@ -10,7 +10,6 @@ invariant-loop-begun g l =
     record {
       far : Over (PassedOver l.gone) l.fn.held (left l.fn.source) l.held (left l.source) tt;
       near : l.gone ≤ 10240;
-      room : 3414 ≤ length l.room;
       taken : Takes (left l.fn.source) (left l.source);
       later : g.S.Source.faults l.fn.source ≤ g.S.Source.faults l.source;
       beside : g.S.Source.beside l.source ≡ g.S.Source.beside l.fn.source;

@@ -64,7 +64,7 @@ fn learn(alloc: Global, moment: u64) -> Result<Event, Memory> {
     })
 }
 
-fn asked(alloc: Global, step: Asked) -> Result<Event, Memory> {
+fn event_of(alloc: Global, step: Asked) -> Result<Event, Memory> {
     match step {
         Asked::Made(step) => event(alloc, step),
         Asked::Learn(moment) => learn(alloc, moment),
@@ -95,7 +95,7 @@ fn play(alloc: Global, steps: &[Asked]) -> Result<String, Memory> {
     let mut book = start(alloc, 1000)?;
     let mut replies = String::new(alloc);
     for step in steps {
-        match book.step(alloc, 0, asked(alloc, *step)?) {
+        match book.step(alloc, 0, event_of(alloc, *step)?) {
             Ok(reply) => replies.push_str(word(&reply))?,
             Err(_) => replies.push_str("fault ")?,
         }

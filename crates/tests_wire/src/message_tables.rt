@@ -109,7 +109,7 @@ pub const LIMITS: [(
     &'static [u8],
     usize,
     &'static str,
-); 14] = [
+); 17] = [
     (b"GET / HTTP/1.0\r\n", b"a:\r\n", 100, b"\r\n", 1, ""),
     (
         b"GET / HTTP/1.0\r\n",
@@ -127,6 +127,23 @@ pub const LIMITS: [(
         1,
         "HeadTooLong",
     ),
+    (
+        b"GET / HTTP/1.0\r\n",
+        b"a:\n",
+        3_000,
+        b"\r\n",
+        64,
+        "HeadTooLong",
+    ),
+    (
+        b"GET / HTTP/1.0\r\n",
+        b"a:\n",
+        3_000,
+        b"\x00\n",
+        64,
+        "BadHead",
+    ),
+    (b"GET / HTTP/1.0\r\n", b"a:\n", 3_000, b"", 64, "Cut(9016)"),
     (b"GET / HTTP/1.0\r\na:", b"a", 10_218, b"\r\n\r\n", 1, ""),
     (
         b"GET / HTTP/1.0\r\na:",

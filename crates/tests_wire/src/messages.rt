@@ -177,6 +177,17 @@ fn heads_of_replies_share_their_limit(rt: HostRuntime) -> Result<(), Fail> {
     Ok(())
 }
 
+#[test]
+fn fields_of_replies_are_counted(rt: HostRuntime) -> Result<(), Fail> {
+    let alloc = rt.alloc();
+    for (times, word) in [(100, "200 "), (101, "HeadTooLong"), (3_000, "HeadTooLong")] {
+        let bytes = repeated(alloc, b"HTTP/1.1 200 OK\r\n", b"a:\n", times, b"\r\n")?;
+        assert_eq!(rt; reply(alloc, &bytes, 64, false)?.as_str(), word);
+        assert_eq!(rt; reply(alloc, &bytes, 4096, false)?.as_str(), word);
+    }
+    Ok(())
+}
+
 fn answer(alloc: Global, status: u16) -> Result<Answer, Fail> {
     let mut headers = Seq::new(alloc);
     let name = Text::of(String::from_str(alloc, "Content-Type")?);

@@ -1,17 +1,15 @@
-use Rattle.std.proofs.Common.{◌≡◌, ◌==◌, List, [], ◌∷◌, ap, refl, sym, subst, ◌∙◌, Ok, Err, IfOk, IfErr, true, false, rules}
-use Rattle.authorizer_call.specs.Outcomes.{policy_of}
-use Rattle.backend_core.specs.declared.outcome.Outcome.{Outcome}
+use Rattle.std.proofs.Common.{◌≡◌, List, [], refl, sym, subst, ◌∙◌, IfOk, IfErr, false}
 use Rattle.book_core.specs.Books.{Refuses}
 use Rattle.book_rules.specs.History.{Answers}
 use Rattle.book_rules.specs.declared.events.Event.{Event}
 use Rattle.book_rules.specs.declared.replies.Reply.{Reply}
-use Rattle.gate_serve.specs.Serving.{Asked, BackendTold, Did, Reaches, learn_at, recall_at, seat_of}
+use Rattle.gate_serve.specs.Serving.{Asked, BackendTold, Did, Reaches, recall_at, seat_of}
 use Rattle.gate_serve.specs.declared.called.Called.TheVariants.{Memory}
-use Rattle.gate_serve.proofs.Asking.{asked_in_vain, asked_nothing, asked_once}
-use Rattle.gate_serve.proofs.Doing.{event_of, did_nothing, did_take, goes_not_asking, goes_out, goes_through_asking, goes_nowhere_asking}
+use Rattle.gate_serve.proofs.Asking.{asked_nothing}
+use Rattle.gate_serve.proofs.Doing.{event_of, did_nothing, did_take, goes_not_asking, goes_through_asking, goes_nowhere_asking}
 use Rattle.gate_walk.specs.Acts.{Act, tell_closing}
-use Rattle.gate_walk.specs.Walk.{Call, consulted, follows, gives, inquires, learns, policy_in, recalled}
-use Rattle.method_answers.specs.Plans.{judged, way_of}
+use Rattle.gate_walk.specs.Walk.{Call, consulted, policy_in, recalled}
+use Rattle.method_answers.specs.Plans.{judged}
 use Rattle.turn_desk.specs.Calls.{Taken, NotTaken}
 use Rattle.gate_serve.proofs.consulting.recall.Goals as goal
 

@@ -265,7 +265,7 @@ struct Asked {
     outside: Outside,
 }
 
-fn asked<R: Wait>(rt: &R, alloc: Global) -> Result<Asked, Memory> {
+fn ask<R: Wait>(rt: &R, alloc: Global) -> Result<Asked, Memory> {
     Ok(Asked {
         words: words(alloc)?,
         outside: outside(rt, alloc)?,
@@ -289,7 +289,7 @@ fn served<R: Threads + Wait + Sync>(rt: &R, alloc: Global, asked: &mut Asked) ->
 #[test]
 fn two_lanes_are_served_or_memory_is_wanting(rt: HostRuntime) -> Result<(), Fail> {
     let alloc = rt.alloc();
-    let came = match asked(&rt, alloc) {
+    let came = match ask(&rt, alloc) {
         Ok(asked) => {
             let mut asked = asked;
             served(&rt, alloc, &mut asked)

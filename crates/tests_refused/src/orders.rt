@@ -36,7 +36,7 @@ fn coded(alloc: Global, parts: &[(&str, &[u8])]) -> Result<String, Memory> {
     Ok(text)
 }
 
-pub(crate) fn order(alloc: Global) -> Result<Order, Memory> {
+pub(crate) fn make_order(alloc: Global) -> Result<Order, Memory> {
     let bytes = joined(alloc, &ORDER)?;
     let record = coded(
         alloc,
@@ -175,7 +175,7 @@ fn came<R: Wait>(rt: &R, alloc: Global, order: &Order) -> Came {
     }
     match played {
         Err(Memory) => Came::Memory(history.len(), "entries"),
-        Ok(true) if history.len() == WHOLE.len() => Came::Whole,
+        Ok(whole) if whole && history.len() == WHOLE.len() => Came::Whole,
         Ok(_) => Came::Wrong("a record prints something else"),
     }
 }
@@ -183,7 +183,7 @@ fn came<R: Wait>(rt: &R, alloc: Global, order: &Order) -> Came {
 #[test]
 fn an_order_is_played_or_memory_is_wanting(rt: HostRuntime) -> Result<(), Fail> {
     let alloc = rt.alloc();
-    let came = match order(alloc) {
+    let came = match make_order(alloc) {
         Ok(order) => came(&rt, alloc, &order),
         Err(_) => Came::Nothing,
     };

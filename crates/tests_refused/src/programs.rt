@@ -1,6 +1,6 @@
 // An order as the input of the program.
 use crate::came::Came;
-use crate::orders::order;
+use crate::orders::make_order;
 use backend_core::MemBackend;
 use book_rules::Entry;
 use gate_ports::FreeGate;
@@ -32,8 +32,8 @@ fn lines(alloc: Global, records: &[&str], end: &str) -> Result<String, Memory> {
     Ok(lines)
 }
 
-fn play(alloc: Global) -> Result<Play, Memory> {
-    let order = order(alloc)?;
+fn make_play(alloc: Global) -> Result<Play, Memory> {
+    let order = make_order(alloc)?;
     let mut script = lines(alloc, &COMMANDS, "\n")?;
     script.push_str(lines(alloc, &[order.record.as_str(), USAGE], "\n")?.as_str())?;
     let mut said = lines(alloc, &DONE, "")?;
@@ -81,7 +81,7 @@ fn came<R: Threads + Wait + Sync>(rt: &R, alloc: Global, play: &mut Play) -> Cam
 #[test]
 fn an_order_is_played_by_the_program_or_memory_is_wanting(rt: HostRuntime) -> Result<(), Fail> {
     let alloc = rt.alloc();
-    let came = match play(alloc) {
+    let came = match make_play(alloc) {
         Ok(play) => {
             let mut play = play;
             came(&rt, alloc, &mut play)

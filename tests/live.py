@@ -1077,8 +1077,19 @@ BROKEN = [leaves_half_a_head, leaves_half_a_body, is_slow, resets, sends_no_head
 
 
 def broken_clients_harm_no_other(server):
-    """A storm: 64 clients over eight lanes, half of them broken in one of eight ways, each four times; of the others 1,024 calls, each of
-    which is answered to the byte. Behind them the server is shut down, and its line has at least these calls."""
+    """A storm: 64 clients over eight lanes, half of them broken in one of eight ways, each four times; of the others 1,024 calls and 128 with
+    a key, each of which is answered to the byte. Behind them the key has used just 128 of its quota; then the server is shut down, and its
+    line has at least these calls."""
+    steps = [
+        *MADE,
+        (request(b"PUT", b"/_admin/apis/keyed", KEYED), DONE),
+        (request(b"POST", b"/_admin/apis/keyed/deployments"), json_answer(b"200 OK", b'{"reply":"deployed 1"}')),
+        (request(b"PUT", b"/_admin/apis/keyed/stages/v1", b"1"), DONE),
+        (request(b"PUT", b"/_admin/keys/ann", b"ann-has-this-key on"), DONE),
+        (request(b"PUT", b"/_admin/plans/basic", b"- 1000:0:MONTH keyed/v1"), DONE),
+        (request(b"PUT", b"/_admin/plans/basic/keys/ann"), DONE),
+    ]
+    keyed = proxied(b"200 OK", b"ann")
 
     def work(number):
         if number % 2:
@@ -1088,6 +1099,7 @@ def broken_clients_harm_no_other(server):
             return
         for turn in range(4):
             with Client(other.port) as client:
+                client.calls(f"the call with a key of turn {turn}", KEYED_CALL % b"ann-has-this-key", keyed)
                 for call in range(8):
                     name, last = b"%d-%d-%d" % (number, turn, call), call == 7
                     client.send(call_of(name, last))
@@ -1099,17 +1111,21 @@ def broken_clients_harm_no_other(server):
         try:
             other.start()
             with Client(other.port) as client:
-                for asked, answer in MADE:
+                for asked, answer in steps:
                     client.calls(f"to {asked[:60]}", asked, answer)
             at_once(64, work)
+            month = (time.gmtime().tm_year - 1970) * 12 + time.gmtime().tm_mon - 1
+            used = json_answer(b"200 OK", b'{"reply":"usage period=MONTH:%d allowance=1000 used=128 remaining=872"}' % month)
+            with Client(other.port) as client:
+                client.calls("the use of the key", request(b"GET", b"/_admin/plans/basic/keys/ann/usage"), used)
             with Client(other.port) as client:
                 client.send(request(b"POST", b"/_admin/shutdown"))
                 client.has_last("the end", json_answer(b"200 OK", b'{"reply":"done"}', closes=True))
             status, line = other.ends_by_itself()
             expect("status", status, 0)
             calls = int(line.split(b" calls=")[1].split()[0])
-            if not 1024 + 16 <= calls <= 1024 + 16 + 48:
-                raise Wrong(f"of 1,040 calls that were answered, and 48 that may have been, the line has {calls}")
+            if not 1152 + 16 <= calls <= 1152 + 16 + 48 or b" admitted=128 " not in line:
+                raise Wrong(f"of 1,168 calls that were answered, 128 of them admitted, and 48 that may have been, the line has {line}")
         finally:
             other.end()
 

@@ -1,6 +1,6 @@
 // What a definition states of its methods.
 use crate::uri::Uri;
-use gw_base::{Seq, Text};
+use gw_base::{Seq, Shared, Text};
 use jsonpath_core::Path;
 use pattern_core::Pattern;
 use status_table::StatusTable;
@@ -102,7 +102,8 @@ pub struct Mapping {
 /// What is answered at some statuses of a backend; without a pattern, at all others.
 #[derive(Drop)]
 pub struct ResponseRule {
-    pub pattern: Option<StatusTable>,
+    /// Rules with the same pattern share its table.
+    pub pattern: Option<Shared<StatusTable>>,
     /// 200 to 599.
     pub status: u16,
     pub parameters: Seq<Mapping>,

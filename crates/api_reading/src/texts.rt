@@ -7,10 +7,10 @@ ghost use Rattle.api_reading.specs.Texts as says;
 
 use crate::values::{bad_member, copy, fault_here, member_at, object, text};
 use api_parts::{ApiCause, ApiFault, below, no_memory};
-use gw_base::{Seq, Text};
+use gw_base::{Seq, Shared, Text};
 use json_subset::{Doc, NodeId};
 use pattern_core::{Pattern, PatternFault};
-use status_table::{StatusTable, anchored};
+use status_table::{StatusTable, StatusTables, anchored};
 use std::alloc::Global;
 use vtl_grammar::TemplateFault;
 use vtl_reader::Template;
@@ -18,8 +18,14 @@ use vtl_reader::Template;
 /// The most bytes of a pattern.
 const PATTERN_LIMIT: usize = 1024;
 
-/// The table of a pattern that a member states.
-pub fn pattern(alloc: Global, doc: &Doc, name: &str, id: NodeId) -> Result<StatusTable, ApiFault>
+/// The table of a pattern that a member states, among the tables of the document so far.
+pub fn pattern(
+    alloc: Global,
+    doc: &Doc,
+    tables: &mut StatusTables,
+    name: &str,
+    id: NodeId,
+) -> Result<Shared<StatusTable>, ApiFault>
     requires { IsPart doc.now id }
     ensures { Reads (says.pattern_in name.now (part doc.now id)) result }
 {
@@ -27,7 +33,7 @@ pub fn pattern(alloc: Global, doc: &Doc, name: &str, id: NodeId) -> Result<Statu
     if text.len() > PATTERN_LIMIT {
         return Err(bad_member(alloc, name));
     }
-    match StatusTable::build(alloc, text.as_str()) {
+    match tables.table(alloc, text.as_str()) {
         Ok(table) => Ok(table),
         Err(PatternFault::BadPattern) => Err(fault_here(alloc, ApiCause::BadPattern)),
         Err(PatternFault::Memory) => Err(no_memory(alloc)),

@@ -20,6 +20,7 @@ use api_reading::values::{
 use api_reading::{bad_mapping, read_templates, waits};
 use gw_base::{Memory, Seq, Text};
 use json_subset::{Doc, NodeId};
+use status_table::StatusTables;
 use std::alloc::Global;
 use vtl_reader::Template;
 
@@ -271,6 +272,7 @@ fn add_templates(
 fn add_rules(
     alloc: Global,
     doc: &Doc,
+    tables: &mut StatusTables,
     read: IntegrationRead,
     name: &str,
     id: NodeId,
@@ -278,7 +280,7 @@ fn add_rules(
     requires { IsPart doc.now id }
     ensures { Reads (says.rules_row read name.now (part doc.now id)) result }
 {
-    let rules = read_rules(alloc, doc, name, id)?;
+    let rules = read_rules(alloc, doc, tables, name, id)?;
     let waiting = waits(alloc, read.waiting, name, rules.waiting)?;
     Ok(IntegrationRead {
         responses: rules.list,
@@ -291,6 +293,7 @@ fn add_rules(
 fn add_inner(
     alloc: Global,
     doc: &Doc,
+    tables: &mut StatusTables,
     path: &str,
     read: IntegrationRead,
     name: &str,
@@ -306,7 +309,7 @@ fn add_inner(
         return add_templates(alloc, doc, read, name, id);
     }
     if name == "responses" {
-        return add_rules(alloc, doc, read, name, id);
+        return add_rules(alloc, doc, tables, read, name, id);
     }
     if name == "timeout" {
         let timeout = number(alloc, doc, 50, 29_000, name, id)?;
@@ -327,6 +330,7 @@ pub struct Around<'a> {
 fn add_row(
     alloc: Global,
     doc: &Doc,
+    tables: &mut StatusTables,
     around: &Around<'_>,
     read: IntegrationRead,
     name: &str,
@@ -361,12 +365,13 @@ fn add_row(
             ..read
         });
     }
-    add_inner(alloc, doc, around.path, read, name, id)
+    add_inner(alloc, doc, tables, around.path, read, name, id)
 }
 
 fn add_member(
     alloc: Global,
     doc: &Doc,
+    tables: &mut StatusTables,
     around: &Around<'_>,
     read: IntegrationRead,
     name: &str,
@@ -377,7 +382,7 @@ fn add_member(
     ensures { Reads (says.integration_member around.now.kind (option_map (part doc.now) around.now.parameters) around.now.path.now read name.now (part doc.now id)) result }
 {
     if may_have(around.kind, name) {
-        add_row(alloc, doc, around, read, name, id)
+        add_row(alloc, doc, tables, around, read, name, id)
     } else {
         Err(unknown_member(alloc, name))
     }
@@ -472,6 +477,7 @@ fn parameters_of(doc: &Doc, id: NodeId) -> Option<NodeId>
 pub fn read_integration(
     alloc: Global,
     doc: &Doc,
+    tables: &mut StatusTables,
     path: &str,
     name: &str,
     id: NodeId,
@@ -497,7 +503,7 @@ pub fn read_integration(
     let count = object(alloc, doc, name, id)?;
     for i in 0..count {
         let (member, value) = member_at(doc, id, i);
-        read = match add_member(alloc, doc, &around, read, member, value) {
+        read = match add_member(alloc, doc, tables, &around, read, member, value) {
             Ok(read) => read,
             Err(fault) => return Err(below(alloc, member, fault)),
         };

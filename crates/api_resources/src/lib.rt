@@ -20,7 +20,8 @@
 //! are the names of validators, authorizers and models, in the document. Want of memory alone has no cause.
 //!
 //! How it is built, which nothing here promises: one walk over the value; a name is looked up among the members of its
-//! kind one by one, and each path is compared with those before it.
+//! kind, and each path is compared with those before it. A pattern that comes again is not read again: its rules share
+//! one table.
 #![tactic(auto)]
 
 mod integrations;

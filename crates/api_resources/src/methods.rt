@@ -16,6 +16,7 @@ use api_reading::values::{
 use api_reading::{bad_mapping, waits};
 use gw_base::{Seq, Text};
 use json_subset::{Doc, NodeId};
+use status_table::StatusTables;
 use std::alloc::Global;
 
 /// What is read of a method so far.
@@ -260,6 +261,7 @@ fn add_validator(
 fn add_member(
     alloc: Global,
     doc: &Doc,
+    tables: &mut StatusTables,
     path: &str,
     read: MethodRead,
     name: &str,
@@ -283,7 +285,7 @@ fn add_member(
         let other = text(alloc, doc, name, id)?;
         return add_validator(alloc, doc, read, name, other);
     }
-    add_inner(alloc, doc, path, read, name, id)
+    add_inner(alloc, doc, tables, path, read, name, id)
 }
 
 #[tactic(auto, unfolding(crate::specs::Methods::parameters_member_in))]
@@ -331,6 +333,7 @@ fn add_models(
 fn add_integration(
     alloc: Global,
     doc: &Doc,
+    tables: &mut StatusTables,
     path: &str,
     read: MethodRead,
     name: &str,
@@ -339,7 +342,7 @@ fn add_integration(
     requires { IsPart doc.now id }
     ensures { Reads (says.integration_member_in path.now read name.now (part doc.now id)) result }
 {
-    let (integration, fault) = read_integration(alloc, doc, path, name, id)?;
+    let (integration, fault) = read_integration(alloc, doc, tables, path, name, id)?;
     let waiting = waits(alloc, read.waiting, name, fault)?;
     Ok(MethodRead {
         integration: Some(integration),
@@ -352,6 +355,7 @@ fn add_integration(
 fn add_inner(
     alloc: Global,
     doc: &Doc,
+    tables: &mut StatusTables,
     path: &str,
     read: MethodRead,
     name: &str,
@@ -367,7 +371,7 @@ fn add_inner(
         return add_models(alloc, doc, read, name, id);
     }
     if name == "integration" {
-        return add_integration(alloc, doc, path, read, name, id);
+        return add_integration(alloc, doc, tables, path, read, name, id);
     }
     Err(unknown_member(alloc, name))
 }
@@ -408,6 +412,7 @@ fn method_of(
 pub fn read_method(
     alloc: Global,
     doc: &Doc,
+    tables: &mut StatusTables,
     path: &str,
     verb: &str,
     id: NodeId,
@@ -427,7 +432,7 @@ pub fn read_method(
     let count = object(alloc, doc, verb, id)?;
     for i in 0..count {
         let (member, value) = member_at(doc, id, i);
-        read = match add_member(alloc, doc, path, read, member, value) {
+        read = match add_member(alloc, doc, tables, path, read, member, value) {
             Ok(read) => read,
             Err(fault) => return Err(below(alloc, member, fault)),
         };

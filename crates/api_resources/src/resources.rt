@@ -14,6 +14,7 @@ use api_reading::waits;
 use gw_base::{Seq, Text};
 use json_subset::{Doc, NodeId};
 use resource_tree::{Tree, TreeFault};
+use status_table::StatusTables;
 use std::alloc::Global;
 
 /// The most resources of an API.
@@ -73,6 +74,7 @@ fn with_method(
 fn add_method(
     alloc: Global,
     doc: &Doc,
+    tables: &mut StatusTables,
     path: &str,
     read: VerbsRead,
     name: &str,
@@ -84,13 +86,14 @@ fn add_method(
     if !is_entry(name) {
         return Err(unknown_member(alloc, name));
     }
-    let (method, fault) = read_method(alloc, doc, path, name, id)?;
+    let (method, fault) = read_method(alloc, doc, tables, path, name, id)?;
     with_method(alloc, read, name, method, fault)
 }
 
 fn read_verbs(
     alloc: Global,
     doc: &Doc,
+    tables: &mut StatusTables,
     methods: Seq<Method>,
     path: &str,
     id: NodeId,
@@ -106,7 +109,7 @@ fn read_verbs(
     let count = object(alloc, doc, path, id)?;
     for i in 0..count {
         let (member, value) = member_at(doc, id, i);
-        read = match add_method(alloc, doc, path, read, member, value) {
+        read = match add_method(alloc, doc, tables, path, read, member, value) {
             Ok(read) => read,
             Err(fault) => return Err(below(alloc, member, fault)),
         };
@@ -231,6 +234,7 @@ fn build(alloc: Global, paths: &[Text]) -> Result<TreeRead, ApiFault>
 fn add_resource(
     alloc: Global,
     doc: &Doc,
+    tables: &mut StatusTables,
     fault: Option<TreeFault>,
     all: ResourcesRead,
     name: &str,
@@ -244,7 +248,7 @@ fn add_resource(
         methods,
         waiting,
     } = all;
-    let verbs = read_verbs(alloc, doc, methods, name, id)?;
+    let verbs = read_verbs(alloc, doc, tables, methods, name, id)?;
     let all = ResourcesRead {
         list,
         methods: Seq::new(alloc),
@@ -253,28 +257,35 @@ fn add_resource(
     with_resource(alloc, all, name, fault, verbs)
 }
 
-// The resource that stands at this place, where the first fault of all paths is this.
+/// A member of the resources: its place among them, counted from 0, its name, and its value.
+#[derive(Clone, Copy)]
+pub struct Entry<'a> {
+    pub place: u32,
+    pub name: &'a str,
+    pub value: NodeId,
+}
+
+// The resource of this member, where the first fault of all paths is this.
 fn next_resource(
     alloc: Global,
     doc: &Doc,
+    tables: &mut StatusTables,
     paths: &[Text],
     built: &TreeRead,
-    i: u32,
     all: ResourcesRead,
-    name: &str,
-    id: NodeId,
+    member: Entry<'_>,
 ) -> Result<ResourcesRead, ApiFault>
-    requires part { IsPart doc.now id }
-    requires told { IsTold paths.now built.now.fault i all.waiting }
-    requires place { i ≡ length all.list }
-    requires within { i < length paths.now }
-    ensures read { Reads (says.resources_member (root_tree doc.now) paths.now all name.now (part doc.now id)) result }
-    ensures told { IfOk result (λ r. IsTold paths.now built.now.fault (i + 1) r.waiting) }
-    ensures place { IfOk result (λ r. i + 1 ≡ length r.list) }
-    ensures path { IfOk result (λ r. map says.path_of r.list ≡ map says.path_of all.list ++ name.now ∷ []) }
+    requires part { IsPart doc.now member.value }
+    requires told { IsTold paths.now built.now.fault member.place all.waiting }
+    requires place { member.place ≡ length all.list }
+    requires within { member.place < length paths.now }
+    ensures read { Reads (says.resources_member (root_tree doc.now) paths.now all member.entry.name.now (part doc.now member.entry.value)) result }
+    ensures told { IfOk result (λ r. IsTold paths.now built.now.fault (member.entry.place + 1) r.waiting) }
+    ensures place { IfOk result (λ r. member.entry.place + 1 ≡ length r.list) }
+    ensures path { IfOk result (λ r. map says.path_of r.list ≡ map says.path_of all.list ++ member.entry.name.now ∷ []) }
 {
-    let fault = own_fault(&built.fault, i);
-    add_resource(alloc, doc, fault, all, name, id)
+    let fault = own_fault(&built.fault, member.place);
+    add_resource(alloc, doc, tables, fault, all, member.name, member.value)
 }
 
 /// The resources, and the tree of their paths; it is there where no fault waits.
@@ -294,13 +305,15 @@ pub fn read_resources(
     }
     let paths = names(alloc, doc, id, count)?;
     let built = build(alloc, &paths)?;
-    let read = read_each(alloc, doc, &paths, &built, id, count)?;
+    let mut tables = StatusTables::new(alloc);
+    let read = read_each(alloc, doc, &mut tables, &paths, &built, id, count)?;
     Ok((read, built.tree))
 }
 
 fn read_each(
     alloc: Global,
     doc: &Doc,
+    tables: &mut StatusTables,
     paths: &[Text],
     built: &TreeRead,
     id: NodeId,
@@ -322,7 +335,12 @@ fn read_each(
     };
     for i in 0..count {
         let (member, value) = member_at(doc, id, i);
-        read = match next_resource(alloc, doc, paths, built, i, read, member, value) {
+        let entry = Entry {
+            place: i,
+            name: member,
+            value,
+        };
+        read = match next_resource(alloc, doc, tables, paths, built, read, entry) {
             Ok(read) => read,
             Err(fault) => return Err(below(alloc, member, fault)),
         };

@@ -11,16 +11,16 @@ use api_reading::values::{
     fault_here, item_at, list, member_at, missing_member, number, object, unknown_member,
 };
 use api_reading::{pattern, read_templates, waits};
-use gw_base::{Seq, Text};
+use gw_base::{Seq, Shared, Text};
 use json_subset::{Doc, NodeId};
-use status_table::StatusTable;
+use status_table::{StatusTable, StatusTables};
 use std::alloc::Global;
 use vtl_reader::Template;
 
 /// What is read of a rule so far.
 #[derive(Drop)]
 pub struct RuleRead {
-    pub pattern: Option<StatusTable>,
+    pub pattern: Option<Shared<StatusTable>>,
     pub status: Option<u16>,
     pub parameters: Seq<Mapping>,
     pub templates: Seq<(Text, Template)>,
@@ -38,6 +38,7 @@ pub struct RulesRead {
 fn add_member(
     alloc: Global,
     doc: &Doc,
+    tables: &mut StatusTables,
     read: RuleRead,
     name: &str,
     id: NodeId,
@@ -46,7 +47,7 @@ fn add_member(
     ensures { Reads (says.rule_member read name.now (part doc.now id)) result }
 {
     if name == "pattern" {
-        let table = pattern(alloc, doc, name, id)?;
+        let table = pattern(alloc, doc, tables, name, id)?;
         return Ok(RuleRead {
             pattern: Some(table),
             ..read
@@ -102,6 +103,7 @@ fn rule_of(alloc: Global, read: RuleRead) -> Result<(ResponseRule, Option<ApiFau
 fn read_rule(
     alloc: Global,
     doc: &Doc,
+    tables: &mut StatusTables,
     name: &str,
     id: NodeId,
 ) -> Result<(ResponseRule, Option<ApiFault>), ApiFault>
@@ -118,7 +120,7 @@ fn read_rule(
     let count = object(alloc, doc, name, id)?;
     for i in 0..count {
         let (member, value) = member_at(doc, id, i);
-        read = match add_member(alloc, doc, read, member, value) {
+        read = match add_member(alloc, doc, tables, read, member, value) {
             Ok(read) => read,
             Err(fault) => return Err(below(alloc, member, fault)),
         };
@@ -155,6 +157,7 @@ fn with_rule(
 fn add_rule(
     alloc: Global,
     doc: &Doc,
+    tables: &mut StatusTables,
     all: RulesRead,
     name: &str,
     id: NodeId,
@@ -162,7 +165,7 @@ fn add_rule(
     requires { IsPart doc.now id }
     ensures { Reads (says.rules_member all name.now (part doc.now id)) result }
 {
-    let (rule, fault) = read_rule(alloc, doc, name, id)?;
+    let (rule, fault) = read_rule(alloc, doc, tables, name, id)?;
     with_rule(alloc, all, name, rule, fault)
 }
 
@@ -177,7 +180,13 @@ fn item_name(alloc: Global, i: u32) -> Result<Text, ApiFault>
 }
 
 /// The rules, in their order.
-pub fn read_rules(alloc: Global, doc: &Doc, name: &str, id: NodeId) -> Result<RulesRead, ApiFault>
+pub fn read_rules(
+    alloc: Global,
+    doc: &Doc,
+    tables: &mut StatusTables,
+    name: &str,
+    id: NodeId,
+) -> Result<RulesRead, ApiFault>
     requires { IsPart doc.now id }
     ensures { Reads (says.rules_in name.now (part doc.now id)) result }
 {
@@ -190,7 +199,7 @@ pub fn read_rules(alloc: Global, doc: &Doc, name: &str, id: NodeId) -> Result<Ru
     for i in 0..count {
         let value = item_at(doc, id, i);
         let item = item_name(alloc, i)?;
-        read = match add_rule(alloc, doc, read, item.as_str(), value) {
+        read = match add_rule(alloc, doc, tables, read, item.as_str(), value) {
             Ok(read) => read,
             Err(fault) => return Err(below(alloc, item.as_str(), fault)),
         };

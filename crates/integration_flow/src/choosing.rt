@@ -12,7 +12,7 @@ fn is_for(rule: &ResponseRule, status: u16) -> bool
     ensures { result ≡ is_for_of status rule.now }
 {
     match &rule.pattern {
-        Some(table) => table.holds(status),
+        Some(table) => table.value().holds(status),
         None => false,
     }
 }

@@ -24,7 +24,7 @@ form_alike s f g k (code.Bool b) same below = refl
 form_alike s f g k (code.Number x) same below = refl
 form_alike s f g k (code.Text t) same below = refl
 form_alike s f g k (code.List ids) same below = ap (λ z. list (trees_of z)) (map_alike f g k ids.items same below)
-form_alike s f g k (code.Object ms) same below = ap (λ z. object (members_of z)) (members_alike f g k ms.items same below)
+form_alike s f g k (code.Object ms) same below = ap (λ z. object (members_of z)) (members_alike f g k ms.list.items same below)
 
 module _ (s : List ℕ) where
   made_alike : (f g : ℕ → Tree) (k : ℕ) (x : Node) → ((j : ℕ) → j < k → f j ≡ g j) → IsBelow k x.form → made s f x ≡ made s g x
@@ -148,4 +148,4 @@ form_below n (code.Bool b) h = tt
 form_below n (code.Number x) h = tt
 form_below n (code.Text t) h = tt
 form_below n (code.List ids) h = below_more 0 n ids.items (omega arith) h
-form_below n (code.Object ms) h = values_more 0 n ms.items (omega arith) h
+form_below n (code.Object ms) h = values_more 0 n ms.list.items (omega arith) h

@@ -5,6 +5,7 @@ use Rattle.std.specs.Str.{IsCharBoundary}
 use Rattle.std.specs.String.{string_bytes}
 use Rattle.std.specs.declared.alloc.Global.{Global}
 use Rattle.json_subset.specs.Tree.{Tree, node, Form, null, bool, number, text, list, object, trees_of, members_of}
+use Rattle.json_subset.specs.Numbered.{IsIndexOf}
 use Rattle.json_subset.specs.Views.{number_view}
 use Rattle.json_subset.specs.declared.node.Node.{Node}
 use Rattle.json_subset.specs.declared.node.Form.{Form as CodeForm}
@@ -20,7 +21,7 @@ form_of source f (code.Bool b) = bool b
 form_of source f (code.Number x) = number (number_view x) source
 form_of source f (code.Text t) = text (string_bytes t)
 form_of source f (code.List ids) = list (trees_of (map f ids.items))
-form_of source f (code.Object ms) = object (members_of (map (member_at f) ms.items))
+form_of source f (code.Object ms) = object (members_of (map (member_at f) ms.list.items))
 
 -- the tree of a node of this text
 abbrev pub made : List ℕ → (ℕ → Tree) → Node → Tree
@@ -39,7 +40,7 @@ IsBelow n (code.Bool b) = Unit {0}
 IsBelow n (code.Number x) = Unit {0}
 IsBelow n (code.Text t) = Unit {0}
 IsBelow n (code.List ids) = AllBelow n ids.items
-IsBelow n (code.Object ms) = AllValuesBelow n ms.items
+IsBelow n (code.Object ms) = AllValuesBelow n ms.list.items
 
 -- 32 bits count the parts of a form
 abbrev pub IsCounted : CodeForm → Type 0
@@ -48,12 +49,22 @@ IsCounted (code.Bool b) = Unit {0}
 IsCounted (code.Number x) = Unit {0}
 IsCounted (code.Text t) = Unit {0}
 IsCounted (code.List ids) = length ids.items < 2 ^ 32
-IsCounted (code.Object ms) = length ms.items < 2 ^ 32
+IsCounted (code.Object ms) = length ms.list.items < 2 ^ 32
+
+-- an index of the members has the places of their names
+abbrev pub IsIndexed : CodeForm → Type 0
+IsIndexed code.Null = Unit {0}
+IsIndexed (code.Bool b) = Unit {0}
+IsIndexed (code.Number x) = Unit {0}
+IsIndexed (code.Text t) = Unit {0}
+IsIndexed (code.List ids) = Unit {0}
+IsIndexed (code.Object ms) = IsIndexOf ms.list.items ms.index
 
 -- the k-th node of this text: its parts come before it, and its bytes are cut between characters
 pub record IsSound (s : List ℕ) (k : ℕ) (x : Node) : Type 0 where
   pub below : IsBelow k x.form
   pub counted : IsCounted x.form
+  pub indexed : IsIndexed x.form
   pub ordered : x.first ≤ x.past
   pub within : x.past ≤ length s
   pub front : IsCharBoundary s x.first

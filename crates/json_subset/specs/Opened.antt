@@ -1,14 +1,11 @@
 -- What the reader's open brackets stand for.
-use Rattle.std.specs.Prelude.{◌≡◌, ℕ, ◌-◌, ◌<◌, List, length, map, true, if◌then◌else◌, String}
+use Rattle.std.specs.Prelude.{ℕ, ◌-◌, ◌<◌, List, [], ◌∷◌, ◌++◌, length, map}
 use Rattle.std.specs.List.{AllByRecursion}
-use Rattle.std.specs.Str.{bytes_eq}
 use Rattle.std.specs.String.{string_bytes}
-use Rattle.std.specs.BTreeSet.{contains_text}
-use Rattle.std.specs.declared.alloc.Global.{Global}
 use Rattle.json_subset.specs.Tree.{Tree}
-use Rattle.json_subset.specs.Reading.{named}
 use Rattle.json_subset.specs.Turns as turns
 use Rattle.json_subset.specs.Nodes.{member_at, AllBelow, AllValuesBelow}
+use Rattle.json_subset.specs.Numbered.{names_in, HasPlaces}
 use Rattle.json_subset.specs.Places.{IsRest}
 use Rattle.json_subset.specs.declared.turn.Members.{Members}
 use Rattle.json_subset.specs.declared.turn.Parts.{Parts}
@@ -28,12 +25,9 @@ abbrev pub turn_of : ℕ → (ℕ → Tree) → Turn → turns.Turn
 turn_of n f (code.Goes o rest) = turns.goes (n - length o.from.now) (inside_of f o.parts) rest.now
 turn_of n f (code.Whole k rest) = turns.whole (f k) rest.now
 
-abbrev pub names_in : List (String Global × ℕ) → List (List ℕ)
-names_in ms = map (λ m. string_bytes m.0) ms
-
--- the names of an object so far, the next one among them
+-- the places of the names of an object so far, the next one among them
 abbrev pub HasNames : Members → Type 0
-HasNames m = (q : List ℕ) → contains_text m.names q ≡ (if bytes_eq (string_bytes m.name) q then true else named (names_in m.before.items) q)
+HasNames m = HasPlaces (names_in m.before.items ++ string_bytes m.name ∷ []) m.names
 
 -- the parts are before k, and fewer than room
 abbrev pub ArePartsBelow : ℕ → ℕ → Parts → Type 0

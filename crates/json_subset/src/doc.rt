@@ -58,10 +58,14 @@ pub struct Doc {
 }
 
 impl Model for Doc {
+    ghost use Rattle.std.specs.Coded.{codes};
     ghost use Rattle.std.specs.String.{string_bytes};
     ghost use Rattle.json_subset.specs.Documents.{Document, IsDocument};
+    ghost use Rattle.json_subset.specs.contracts.node.Node as node;
 
     ghost Value = { Document };
+
+    ghost coded = { Prim.hlevel (codes, node.the_row.coded) };
 
     ghost view = { λ d. record { text = string_bytes d.text; nodes = d.nodes.items; root = d.root } };
 

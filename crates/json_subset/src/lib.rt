@@ -27,6 +27,9 @@
 //! and `None` exactly where there is no such part. `compact` is the text of a part without the white space outside
 //! strings, and spells that part but for places. The laws of the definitions are in `laws`.
 //!
+//! What it costs: reading is one pass, which looks each name up among those before it; `member` costs the logarithm of
+//! the number of members of a large object (an index of its names, built by that pass, is kept), and walks a small one.
+//!
 //! Left out: byte order marks, comments, and numbers as values (a number keeps its source text).
 #![tactic(auto)]
 

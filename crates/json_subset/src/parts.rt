@@ -2,11 +2,11 @@
 ghost use Rattle.std.specs.Prelude.{◌≡◌, ◌<◌, length, MatchOption, None, Some};
 ghost use Rattle.std.specs.Str.{IsUtf8};
 ghost use Rattle.json_subset.specs.Nodes.{tree_of, made, AreSound, IsSound};
-ghost use Rattle.json_subset.specs.Numbered.{number_named};
+ghost use Rattle.json_subset.specs.Numbered.{number_named, IsIndexOf};
 ghost use Rattle.json_subset.specs.Documents.{form, place as place_of, span as span_of, kind as kind_of, decoded, item_at, entry_at, member_named};
 
 use crate::doc::Kind;
-use crate::node::{Form, Node};
+use crate::node::{Form, Node, ObjectMembers};
 use crate::number::Number;
 
 fn node_at<'a>(text: &str, nodes: &'a [Node], k: usize) -> &'a Node
@@ -33,7 +33,7 @@ pub fn kind(text: &str, nodes: &[Node], k: usize) -> Kind
         Form::Number(Number::Wide) => Kind::Wide,
         Form::Text(_) => Kind::Text,
         Form::List(ids) => Kind::List(ids.len() as u32),
-        Form::Object(members) => Kind::Object(members.len() as u32),
+        Form::Object(members) => Kind::Object(members.list.len() as u32),
     }
 }
 
@@ -91,8 +91,8 @@ pub fn entry<'a>(text: &str, nodes: &'a [Node], k: usize, i: usize) -> Option<(&
     let node = node_at(text, nodes, k);
     match &node.form {
         Form::Object(members) => {
-            if i < members.len() {
-                let member = &members[i];
+            if i < members.list.len() {
+                let member = &members.list[i];
                 Some((member.0.as_str(), member.1))
             } else {
                 None
@@ -114,6 +114,20 @@ fn first_named(members: &[(String, usize)], name: &str) -> Option<usize>
     None
 }
 
+// The same, by the index where there is one.
+fn number_of(members: &ObjectMembers, name: &str) -> Option<usize>
+    requires { IsIndexOf members.now.list.items members.now.index }
+    ensures { result ≡ number_named members.now.list.items name.now }
+{
+    match &members.index {
+        Some(index) => match index.get(name) {
+            Some(place) => Some(members.list[*place].1),
+            None => None,
+        },
+        None => first_named(&members.list, name),
+    }
+}
+
 /// The number of the value of an object's first member of this name.
 pub fn member(text: &str, nodes: &[Node], k: usize, name: &str) -> Option<usize>
     requires sound { AreSound text.now nodes.now }
@@ -122,7 +136,7 @@ pub fn member(text: &str, nodes: &[Node], k: usize, name: &str) -> Option<usize>
 {
     let node = node_at(text, nodes, k);
     match &node.form {
-        Form::Object(members) => first_named(members, name),
+        Form::Object(members) => number_of(members, name),
         Form::Null | Form::Bool(_) | Form::Number(_) | Form::Text(_) | Form::List(_) => None,
     }
 }

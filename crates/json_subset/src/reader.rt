@@ -1,25 +1,25 @@
 // The reader: one pass over the bytes, by turns, with a stack of the brackets that stand open.
-ghost use Rattle.std.specs.Prelude.{◌≡◌, ◌-◌, ◌^◌, ◌<◌, map, ◌∷◌, ℕ, List, [], length, take, true, false, if◌then◌else◌, IfOk, OnOk};
-ghost use Rattle.std.specs.BTreeSet.{contains_text};
-ghost use Rattle.std.specs.Str.{IsUtf8, bytes_eq};
+ghost use Rattle.std.specs.Prelude.{◌≡◌, ◌-◌, ◌^◌, ◌<◌, map, ◌∷◌, length, take, true, IfOk, OnOk};
+ghost use Rattle.std.specs.Str.{IsUtf8};
 ghost use Rattle.std.specs.String.{string_bytes};
 ghost use Rattle.json_subset.specs.Tree.{node};
 ghost use Rattle.json_subset.specs.Reading as says;
 ghost use Rattle.json_subset.specs.Turns.{in_list, in_object, leaf, opens, begun, onward};
-ghost use Rattle.json_subset.specs.Nodes.{tree_of, form_of, nothing, member_at, IsBelow, AllBelow, AllValuesBelow, IsCounted, AreSound, Keeps};
+ghost use Rattle.json_subset.specs.Nodes.{tree_of, form_of, nothing, member_at, IsBelow, AllBelow, AllValuesBelow, IsCounted, IsIndexed, AreSound, Keeps};
+ghost use Rattle.json_subset.specs.Numbered.{has_name, IsEntered};
 ghost use Rattle.json_subset.specs.Opened.{turn_of, inside_of, IsOpen, IsTurn, ArePartsBelow, HasNames};
 ghost use Rattle.json_subset.specs.Places.{IsRest};
 ghost use Rattle.json_subset.specs.Numbers.{number_of as number_as};
 ghost use Rattle.json_subset.specs.Views.{Gives, number_view};
 
 use crate::fault::JsonFault;
-use crate::node::{Form, Node};
+use crate::node::{Form, Node, ObjectMembers};
 use crate::number::{Number, number_of};
 use crate::scan::{Next, after_number, after_white, behind, behind_part, colon, place, word};
 use crate::strings::read_string;
 use crate::turn::{Members, Open, Parts, Turn};
 use std::alloc::{AllocError, Global};
-use std::collections::BTreeSet;
+use std::collections::BTreeMap;
 
 /// How many lists and objects may stand in one another.
 const LEVELS: usize = 64;
@@ -38,6 +38,7 @@ fn add(
     requires inside { IsRest from.now rest.now }
     requires below { IsBelow (length nodes.old.items) form }
     requires counted { IsCounted form }
+    requires indexed { IsIndexed form }
     ensures kept { OnOk result (Keeps text.now nodes.old.items nodes.new.items) }
     ensures stands { IfOk result (λ k. k < length nodes.new.items) }
     ensures tree { IfOk result (λ k. tree_of text.now nodes.new.items k ≡ node (length text.now - length from.now) (length text.now - length rest.now) (form_of (take (length from.now - length rest.now) from.now) (tree_of text.now nodes.old.items) form)) }
@@ -58,6 +59,7 @@ fn read_scalar(alloc: Global, n: usize, bytes: &[u8]) -> Result<(Form, &[u8]), J
     ensures gives { Gives (λ p. (form_of (take (length bytes.now - length p.1.now) bytes.now) (λ _. nothing) p.0, p.1.now)) result (says.scalar n bytes.now) }
     ensures below { IfOk result (λ p. IsBelow 0 p.0) }
     ensures counted { IfOk result (λ p. IsCounted p.0) }
+    ensures indexed { IfOk result (λ p. IsIndexed p.0) }
 {
     match bytes {
         [] => Err(JsonFault::Syntax(n)),
@@ -92,55 +94,63 @@ fn read_number(bytes: &[u8], rest: &[u8]) -> Number
     number_of(&bytes[..count])
 }
 
-// A member's name and the colon, before its value; the name is none of these, and is added to them.
+// A member's name and the colon, before its value; the name is none of these, and is added to them
+// with its place.
 fn read_label<'a>(
     alloc: Global,
     n: usize,
-    names: &mut BTreeSet<String>,
+    names: &mut BTreeMap<String, usize>,
+    count: usize,
     bytes: &'a [u8],
 ) -> Result<(String, &'a [u8]), JsonFault>
     requires { IsUtf8 bytes.now }
-    ensures gives { Gives (λ p. (string_bytes p.0, p.1.now)) result (says.label n (contains_text names.old) bytes.now) }
-    ensures names { IfOk result (λ p. (q : List ℕ) → contains_text names.new q ≡ (if bytes_eq (string_bytes p.0) q then true else contains_text names.old q)) }
+    ensures gives { Gives (λ p. (string_bytes p.0, p.1.now)) result (says.label n (has_name names.old) bytes.now) }
+    ensures names { IfOk result (λ p. IsEntered count (string_bytes p.0) names.old names.new) }
 {
-    let (name, rest) = read_name(alloc, n, names, bytes)?;
+    let (name, rest) = read_name(alloc, n, names, count, bytes)?;
     let rest = colon(n, rest)?;
     Ok((name, rest))
 }
 
-// A member's name, which is none of these, and is added to them.
+// A member's name, which is none of these, and is added to them with its place.
 fn read_name<'a>(
     alloc: Global,
     n: usize,
-    names: &mut BTreeSet<String>,
+    names: &mut BTreeMap<String, usize>,
+    count: usize,
     bytes: &'a [u8],
 ) -> Result<(String, &'a [u8]), JsonFault>
     requires { IsUtf8 bytes.now }
-    ensures gives { Gives (λ p. (string_bytes p.0, p.1.now)) result (says.name n (contains_text names.old) bytes.now) }
-    ensures names { IfOk result (λ p. (q : List ℕ) → contains_text names.new q ≡ (if bytes_eq (string_bytes p.0) q then true else contains_text names.old q)) }
+    ensures gives { Gives (λ p. (string_bytes p.0, p.1.now)) result (says.name n (has_name names.old) bytes.now) }
+    ensures names { IfOk result (λ p. IsEntered count (string_bytes p.0) names.old names.new) }
 {
     match bytes {
         [] => Err(JsonFault::Syntax(n)),
         [b'"', inside @ ..] => {
             let at = place(n, bytes);
             let (name, rest) = read_string(alloc, n, inside)?;
-            let name = enter(at, names, name)?;
+            let name = enter(at, names, count, name)?;
             Ok((name, rest))
         }
         _ => Err(JsonFault::Syntax(place(n, bytes))),
     }
 }
 
-// Adds a name, whose quote stands at this place, to the names that it is none of.
-fn enter(at: usize, names: &mut BTreeSet<String>, name: String) -> Result<String, JsonFault>
-    ensures gives { Gives string_bytes result (says.unlike at (contains_text names.old) (string_bytes name)) }
-    ensures names { IfOk result (λ x. (q : List ℕ) → contains_text names.new q ≡ (if bytes_eq (string_bytes x) q then true else contains_text names.old q)) }
+// Adds a name, whose quote stands at this place, to the names that it is none of, behind so many.
+fn enter(
+    at: usize,
+    names: &mut BTreeMap<String, usize>,
+    count: usize,
+    name: String,
+) -> Result<String, JsonFault>
+    ensures gives { Gives string_bytes result (says.unlike at (has_name names.old) (string_bytes name)) }
+    ensures names { IfOk result (λ x. IsEntered count (string_bytes x) names.old names.new) }
 {
-    if names.contains(name.as_str()) {
+    if names.contains_key(name.as_str()) {
         return Err(JsonFault::Repeated(at));
     }
     let kept = name.clone()?;
-    names.insert(kept)?;
+    names.insert(kept, count)?;
     Ok(name)
 }
 
@@ -202,11 +212,17 @@ fn open_object<'a>(
     }
     let bytes = after_white(inside);
     if let Some(rest) = behind(b'}', bytes) {
-        let k = add(text, nodes, from, rest, Form::Object(Vec::new(alloc)))?;
+        let k = add(
+            text,
+            nodes,
+            from,
+            rest,
+            Form::Object(ObjectMembers::none(alloc)),
+        )?;
         return Ok(Turn::Whole(k, rest));
     }
-    let mut names = BTreeSet::new(alloc);
-    let (name, rest) = read_label(alloc, text.len(), &mut names, bytes)?;
+    let mut names = BTreeMap::new(alloc);
+    let (name, rest) = read_label(alloc, text.len(), &mut names, 0, bytes)?;
     let before = Vec::new(alloc);
     let parts = Parts::Members(Members {
         before,
@@ -328,11 +344,12 @@ fn next_member<'a>(
             if !is_counted(before.len()) {
                 return Err(JsonFault::Memory);
             }
-            let k = add(text, nodes, from, rest, Form::Object(before))?;
+            let members = ObjectMembers::of(before, names);
+            let k = add(text, nodes, from, rest, Form::Object(members))?;
             Ok(Turn::Whole(k, rest))
         }
         Next::More(rest) => {
-            let (name, rest) = read_label(alloc, text.len(), &mut names, rest)?;
+            let (name, rest) = read_label(alloc, text.len(), &mut names, before.len(), rest)?;
             let parts = Parts::Members(Members {
                 before,
                 names,

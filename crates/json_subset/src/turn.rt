@@ -1,11 +1,12 @@
 // The brackets that stand open while a document is read, and what was read in each.
-use std::collections::BTreeSet;
+use std::collections::BTreeMap;
 
-/// The members of an open object: those before, their names with the one below, and the name of the next.
+/// The members of an open object: those before, the places of their names and of the one below, and
+/// the name of the next.
 #[derive(Drop)]
 pub struct Members {
     pub before: Vec<(String, usize)>,
-    pub names: BTreeSet<String>,
+    pub names: BTreeMap<String, usize>,
     pub name: String,
 }
 

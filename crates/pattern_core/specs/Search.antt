@@ -1,5 +1,5 @@
 -- What a pattern is, and where it has a match, by the grammar and the search of `regex`.
-use Rattle.std.specs.Prelude.{ℕ, ◌++◌, List, Bool, false, Option, None, Some, is_some, chars, codes, option_map, nat_le}
+use Rattle.std.specs.Prelude.{◌≡◌, ◌<◌, ℕ, get_or, ◌++◌, List, Bool, false, Option, None, Some, is_some, chars, codes, option_map, nat_le}
 use Rattle.regex.specs.Patterns.{Re, find_str, default_config}
 use Rattle.regex_syntax.specs.Grammar.{read}
 use Rattle.regex_syntax.specs.Brackets.{Nested}
@@ -23,6 +23,10 @@ found_in (Some tree) text = is_some (find_str tree.value text 0)
 -- the pattern has a match somewhere in the text
 abbrev pub matches : List ℕ → List ℕ → Bool
 matches source text = found_in (tree_of source) text
+
+-- a search for this expression finds what the pattern matches
+abbrev pub IsFoundBy : List ℕ → Re → Type 0
+IsFoundBy source re = (text : List ℕ) → ((k : ℕ) → get_or text k 0 < 256) → is_some (find_str re text 0) ≡ matches source text
 
 -- `^(?:P)$`
 abbrev pub anchored : List ℕ → List ℕ

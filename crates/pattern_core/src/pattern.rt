@@ -1,9 +1,9 @@
-// A compiled pattern.
+// A compiled pattern, and what searches for it.
 ghost use Rattle.std.specs.Prelude.{◌≡◌, true, false, IfOk, IfErr};
 ghost use Rattle.pattern_core.specs.Search.{is_pattern, matches};
 
 use gw_base::Memory;
-use regex::{Error, Regex};
+use regex::{Error, Matcher, Regex};
 use std::alloc::Global;
 use std::marker::Model;
 
@@ -48,16 +48,54 @@ impl Pattern {
         }
     }
 
-    /// Whether the pattern has a match somewhere in the text.
+    /// Whether the pattern has a match somewhere in the text. For many texts, one [`Searcher`] is far cheaper.
     pub fn searches(&self, alloc: Global, text: &str) -> Result<bool, Memory>
         ensures { IfOk result (λ found. found ≡ matches self.now text.now) }
     {
+        let mut searcher = self.searcher(alloc)?;
+        Ok(searcher.searches(text))
+    }
+
+    /// What searches many texts, one after the other.
+    pub fn searcher(&self, alloc: Global) -> Result<Searcher<'_>, Memory>
+        ensures { IfOk result (λ searcher. searcher ≡ self.now) }
+    {
         match self.compiled.matcher(alloc) {
-            Ok(matcher) => {
-                let mut matcher = matcher;
-                Ok(matcher.is_match(text))
-            }
+            Ok(matcher) => Ok(Searcher {
+                pattern: self,
+                matcher,
+            }),
             Err(_) => Err(Memory),
         }
+    }
+}
+
+/// What searches many texts for one pattern: it keeps the memory that a search takes, and what earlier searches found out.
+/// A contract sees it as the pattern's source.
+#[derive(Drop)]
+pub struct Searcher<'p> {
+    pattern: &'p Pattern,
+    matcher: Matcher<'p>,
+}
+
+impl<'p> Model for Searcher<'p> {
+    ghost use Rattle.std.specs.Prelude.{ℕ, List};
+    ghost use Rattle.regex.specs.Strings.{matcher_pattern};
+    ghost use Rattle.pattern_core.specs.Search.{IsFoundBy};
+
+    ghost Value = { List ℕ };
+
+    ghost view = { λ s. s.pattern.now };
+
+    ghost invariant = { λ s. IsFoundBy s.pattern.now (matcher_pattern s.matcher) };
+}
+
+impl<'p> Searcher<'p> {
+    /// Whether the pattern has a match somewhere in the text.
+    pub fn searches(&mut self, text: &str) -> bool
+        ensures found { result ≡ matches self.old text.now }
+        ensures same { self.new ≡ self.old }
+    {
+        self.matcher.is_match(text)
     }
 }

@@ -4,7 +4,7 @@ ghost use Rattle.pattern_core.specs.Search.{anchored as anchored_of};
 ghost use Rattle.status_table.specs.Statuses.{AreAnswers, is_whole_pattern, takes};
 
 use gw_base::{Memory, Text};
-use pattern_core::{Pattern, PatternFault};
+use pattern_core::{Pattern, PatternFault, Searcher};
 use std::alloc::Global;
 use std::marker::Model;
 
@@ -50,26 +50,28 @@ pub fn anchored(alloc: Global, pattern: &str) -> Result<Pattern, PatternFault>
 fn takes_status(
     alloc: Global,
     pattern: &str,
-    anchored: &Pattern,
+    anchored: &mut Searcher<'_>,
     status: u16,
 ) -> Result<bool, Memory>
-    requires { anchored.now ≡ anchored_of pattern.now }
-    ensures { IfOk result (λ b. b ≡ takes pattern.now status) }
+    requires { anchored.old ≡ anchored_of pattern.now }
+    ensures taken { IfOk result (λ b. b ≡ takes pattern.now status) }
+    ensures same { anchored.new ≡ anchored.old }
 {
     let Ok(text) = format!(in alloc; "{status}") else {
         return Err(Memory);
     };
-    anchored.searches(alloc, text.as_str())
+    Ok(anchored.searches(text.as_str()))
 }
 
-// The answers for the statuses 100 to 999.
+// The answers for the statuses 100 to 999, by one searcher for all.
 fn answers(alloc: Global, pattern: &str, anchored: &Pattern) -> Result<Vec<bool>, Memory>
     requires { anchored.now ≡ anchored_of pattern.now }
     ensures { IfOk result (λ v. AreAnswers pattern.now 900 v.items) }
 {
-    let mut answers = Vec::new(alloc);
+    let mut searcher = anchored.searcher(alloc)?;
+    let mut answers = Vec::with_capacity(alloc, 900)?;
     for n in 0..900 {
-        answers.push(takes_status(alloc, pattern, anchored, 100 + n)?)?;
+        answers.push(takes_status(alloc, pattern, &mut searcher, 100 + n)?)?;
     }
     Ok(answers)
 }

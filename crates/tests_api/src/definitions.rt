@@ -169,7 +169,7 @@ fn response_rules_have_their_parts(rt: HostRuntime) -> Result<(), Fail> {
     let Some(table) = &gone.pattern else {
         return Err(Fail::from("no pattern"));
     };
-    assert!(rt; table.holds(410) && !table.holds(400));
+    assert!(rt; table.value().holds(410) && !table.value().holds(400));
     let [mapping] = gone.parameters.as_slice() else {
         return Err(Fail::from("other mappings"));
     };

@@ -1,8 +1,6 @@
 // The methods of a map.
 ghost use Rattle.std.specs.Prelude.{◌≡◌, codes, map, IfOk};
-ghost use Rattle.std.specs.List.{list_any};
 ghost use Rattle.std.specs.Rc.{rc_str_bytes};
-ghost use Rattle.std.specs.Str.{bytes_eq};
 ghost use Rattle.vtl_values.specs.Val.{map as map_val, text as text_val};
 ghost use Rattle.vtl_values.specs.Vals.{rows_of};
 ghost use Rattle.vtl_values.specs.Parts.{entry_keys};
@@ -14,7 +12,7 @@ use crate::names::MapMethod;
 use gw_base::Memory;
 use std::alloc::Global;
 use std::rc::RcStr;
-use vtl_values::{ListMaker, MapMaker, Value, item_at, size};
+use vtl_values::{ListMaker, MapMaker, Value, has_key, item_at, size};
 
 /// What a method of this map gives; `whole` is the map with these entries.
 pub(crate) fn on_map(
@@ -30,7 +28,7 @@ pub(crate) fn on_map(
     match method {
         MapMethod::Size => Ok(size_of(whole, entries, arguments)),
         MapMethod::Get => get(whole, entries, arguments),
-        MapMethod::ContainsKey => Ok(contains_key(entries, arguments)),
+        MapMethod::ContainsKey => Ok(contains_key(whole, entries, arguments)),
         MapMethod::KeySet => key_set(alloc, entries, arguments),
         MapMethod::EntrySet => entry_set(alloc, entries, arguments),
         MapMethod::IsEmpty => Ok(is_empty(entries, arguments)),
@@ -60,24 +58,14 @@ fn get(whole: &Value, entries: &[(RcStr, Value)], arguments: &[Value]) -> Result
 }
 
 #[tactic(auto, unfolding(crate::specs::Methods::map_method))]
-fn contains_key(entries: &[(RcStr, Value)], arguments: &[Value]) -> Value
+fn contains_key(whole: &Value, entries: &[(RcStr, Value)], arguments: &[Value]) -> Value
+    requires { whole.now ≡ map_val (rows_of entries.now) }
     ensures { result ≡ given MapMethod.ContainsKey (rows_of entries.now) arguments.now }
 {
     match only_text(arguments) {
-        Some(key) => Value::boolean(has_key(entries, key.as_str())),
+        Some(key) => Value::boolean(has_key(whole, key.as_str())),
         None => Value::null(),
     }
-}
-
-fn has_key(entries: &[(RcStr, Value)], key: &str) -> bool
-    ensures { result ≡ list_any (λ j. bytes_eq j key.now) (entry_keys (rows_of entries.now)) }
-{
-    for entry in entries {
-        if entry.0.as_str() == key {
-            return true;
-        }
-    }
-    false
 }
 
 #[tactic(auto, unfolding(crate::specs::Methods::map_method))]

@@ -1,3 +1,5 @@
+-- one byte in the place of another
+pub mod Bytes
 -- places and lengths in characters
 pub mod Counted
 -- where one text first stands in another

@@ -123,3 +123,21 @@ joined_same (suc n) s t = same_by n t s (cut t s) refl (joined_same n s)
 pub exchanged_same : (t s r : List ℕ) → s ≡ r → exchanged t s r ≡ t
 unfolding exchanged parts
 exchanged_same t s r e = ap (λ (u : List ℕ). joined u (parts_within (length t) t s)) (sym e) ∙ joined_same (length t) s t
+
+-- a text that is as long as what it is put in the place of changes no length
+long_by : (n : ℕ) (t s r : List ℕ) (o : Option (List ℕ × List ℕ)) → length s ≡ length r → cut t s ≡ o → ((u : List ℕ) → length (joined r (parts_within n u s)) ≡ length u) → length (joined r (option_map_or (λ c. c.0 ∷ parts_within n c.1 s) o (t ∷ []))) ≡ length t
+long_by n t s r None l e inner = refl
+long_by n t s r (Some c) l e inner =
+    let next = parts_more n c.1 s in
+    let more = joined r (next.0 ∷ next.1) in
+    let rest : length more ≡ length c.1 = ap (λ (ps : List (List ℕ)). length (joined r ps)) (sym next.2) ∙ inner c.1 in
+    let all : length (c.0 ++ (r ++ more)) ≡ length t = omega (arith, rest, l, ap length (cut_splits t s c e), length-append c.0 (r ++ more), length-append r more, length-append c.0 (s ++ c.1), length-append s c.1) in
+    ap (λ (ps : List (List ℕ)). length (joined r (c.0 ∷ ps))) next.2 ∙ all
+
+joined_long : (n : ℕ) (s r : List ℕ) → length s ≡ length r → (t : List ℕ) → length (joined r (parts_within n t s)) ≡ length t
+joined_long zero s r l t = refl
+joined_long (suc n) s r l t = long_by n t s r (cut t s) l refl (joined_long n s r l)
+
+pub exchanged_as_long : (t s r : List ℕ) → length s ≡ length r → length (exchanged t s r) ≡ length t
+unfolding exchanged parts
+exchanged_as_long t s r l = joined_long (length t) s r l t

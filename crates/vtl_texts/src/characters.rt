@@ -10,6 +10,10 @@ use crate::places::split_once;
 pub fn length(text: &str) -> usize
     ensures { result ≡ text_length text.now }
 {
+    // Each byte of ASCII is a character.
+    if text.is_ascii() {
+        return text.len();
+    }
     text.chars().count()
 }
 

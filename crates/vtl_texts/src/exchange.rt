@@ -5,6 +5,7 @@ ghost use Rattle.std.specs.String.{string_bytes};
 ghost use Rattle.vtl_texts.specs.Places.{exchanged, within};
 
 use crate::places::split_once;
+use crate::single::with_byte;
 use gw_base::Memory;
 use std::alloc::Global;
 
@@ -23,14 +24,39 @@ pub fn replace(
     // A text that is put in its own place changes nothing.
     ensures same { from.now ≡ to.now → IfOk result (λ made. option_map string_bytes made ≡ within most text.now) }
 {
-    let Some(bytes) = exchanged_length(text, from, to, most) else {
+    let Some(bytes) = made_length(text, from, to, most) else {
         return Ok(None);
     };
-    let made = String::with_capacity(alloc, bytes as usize)?;
-    Ok(Some(exchange(made, text, from, to)?))
+    Ok(Some(make(alloc, text, from, to, bytes as usize)?))
 }
 
 /// How many bytes the replacing gives; none where they are more than `most`.
+fn made_length(text: &str, from: &str, to: &str, most: u64) -> Option<u64>
+    requires { 0 < length from.now }
+    ensures { MatchOption result (most < length (exchanged text.now from.now to.now)) (λ n. (n ≡ length (exchanged text.now from.now to.now)) × (n ≤ most)) }
+{
+    if from.len() != to.len() {
+        return exchanged_length(text, from, to, most);
+    }
+    let bytes = text.len() as u64;
+    if most < bytes {
+        return None;
+    }
+    Some(bytes)
+}
+
+/// The replaced text, which has so many bytes.
+fn make(alloc: Global, text: &str, from: &str, to: &str, bytes: usize) -> Result<String, Memory>
+    requires { 0 < length from.now }
+    ensures { IfOk result (λ made. string_bytes made ≡ exchanged text.now from.now to.now) }
+{
+    match (from.as_bytes(), to.as_bytes()) {
+        ([old], [new]) if new.is_ascii() && text.is_ascii() => with_byte(alloc, text, *old, *new),
+        _ => exchange(String::with_capacity(alloc, bytes)?, text, from, to),
+    }
+}
+
+/// The same, counted part by part.
 fn exchanged_length(text: &str, from: &str, to: &str, most: u64) -> Option<u64>
     requires { 0 < length from.now }
     ensures { MatchOption result (most < length (exchanged text.now from.now to.now)) (λ n. (n ≡ length (exchanged text.now from.now to.now)) × (n ≤ most)) }

@@ -20,7 +20,7 @@
 //! Each call's contract is one equation with a definition of `specs/`, so that its answer is known to the byte. What
 //! may be long is bounded before it is made: [`replace`] finds the length first. Patterns are no regular expressions:
 //! [`literal`] takes those that stand for one text, and answers `None` for all others. Letters outside ASCII keep their
-//! case. Only the search for a part is more than one pass over the text.
+//! case. Only a search for a part, and putting one text in the place of another, pass over the text more than once.
 #![tactic(auto)]
 
 mod characters;
@@ -29,6 +29,7 @@ mod forms;
 mod patterns;
 mod pieces;
 mod places;
+mod single;
 
 pub use characters::{index_of, length, substring, substring_from};
 pub use exchange::replace;

@@ -1,14 +1,16 @@
--- Entries with one more.
-use Rattle.std.proofs.Common.{◌≡◌, ℕ, suc, ◌<◌, List, [], ◌∷◌, ◌++◌, length, Bool, true, false, Option, Some, None, option_map, refl, sym, ap, ◌∙◌, slice_set, arith, true≢false, subst}
+-- Entries with one more, and where the keys stand.
+use Rattle.std.proofs.Common.{◌≡◌, ℕ, suc, ◌+◌, ◌<◌, List, [], ◌∷◌, ◌++◌, length, Bool, true, false, Option, Some, None, option_map, is_some, get_or, ◌||◌, refl, sym, ap, ◌∙◌, slice_set, arith, true≢false, subst}
 use Rattle.std.specs.Prelude.{if◌then◌else◌}
+use Rattle.std.specs.List.{list_any}
 use Rattle.std.specs.Str.{bytes_eq}
 use Rattle.std.specs.Rc.{rc_str_bytes}
 use Rattle.std.specs.declared.rc.RcStr.{RcStr}
 use Rattle.std.specs.declared.alloc.Global.{Global}
 use Rattle.std.proofs.lemmas.Slice.Eq.{bytes_eq-Decides}
-use Rattle.vtl_values.specs.Val.{Val, Entries, no_entries, entry}
+use Rattle.vtl_values.specs.Val.{Val, Entries, null, no_entries, entry}
 use Rattle.vtl_values.specs.Vals.{rows_of}
 use Rattle.vtl_values.specs.Making.{entered}
+use Rattle.vtl_values.specs.Parts.{entry_keys, found}
 use Rattle.vtl_values.specs.Places.{place_of}
 
 -- the place of a key that stands behind another
@@ -92,3 +94,66 @@ places_grow (f ∷ es) k v q = go (bytes_eq (rc_str_bytes f.0) k) refl (places_g
         ap (λ z. if bytes_eq (rc_str_bytes f.0) q then Some 0 else option_map suc z) (more (none_behind (place_of k (rows_of es)) e))
         ∙ pick (bytes_eq (rc_str_bytes f.0) q) (bytes_eq k q) (place_of q (rows_of es))
         (λ s t. true≢false (sym ((bytes_eq-Decides (rc_str_bytes f.0) k).1 ((bytes_eq-Decides (rc_str_bytes f.0) q).0 s ∙ sym ((bytes_eq-Decides k q).0 t))) ∙ other))
+
+-- a key that has a place is that of the entry there
+pub row_found : (es : List (RcStr Global × Val)) (k : List ℕ) (n : ℕ) (e : RcStr Global × Val) → place_of k (rows_of es) ≡ Some n → e ≡ get_or es n e → found k (rows_of es) ≡ e.1
+row_found [] k n e = λ at. absurd cc
+row_found (f ∷ es) k n e = go (bytes_eq (rc_str_bytes f.0) k) (λ m. row_found es k m e)
+  where
+    go : (b : Bool) → ((m : ℕ) → place_of k (rows_of es) ≡ Some m → e ≡ get_or es m e → found k (rows_of es) ≡ e.1)
+        → (if b then Some 0 else option_map suc (place_of k (rows_of es))) ≡ Some n → e ≡ get_or (f ∷ es) n e → (if b then f.1 else found k (rows_of es)) ≡ e.1
+    go true more at is =
+        let zeroth : 0 ≡ n = cc in
+        let P : ℕ → Type 0 = λ i. e ≡ get_or (f ∷ es) i e in
+        ap (λ z. z.1) (sym (subst P (sym zeroth) is))
+    go false more at is =
+        let after = behind (place_of k (rows_of es)) n at in
+        let P : ℕ → Type 0 = λ i. e ≡ get_or (f ∷ es) i e in
+        more after.0 after.1 (subst P after.2 is)
+
+pub row_within : (es : List (RcStr Global × Val)) (k : List ℕ) (n : ℕ) → place_of k (rows_of es) ≡ Some n → n < length es
+row_within [] k n = λ at. absurd cc
+row_within (f ∷ es) k n = go (bytes_eq (rc_str_bytes f.0) k) (row_within es k)
+  where
+    go : (b : Bool) → ((m : ℕ) → place_of k (rows_of es) ≡ Some m → m < length es) → (if b then Some 0 else option_map suc (place_of k (rows_of es))) ≡ Some n → n < length (f ∷ es)
+    go true more at = let zeroth : 0 ≡ n = cc in omega (arith, zeroth)
+    go false more at =
+        let after = behind (place_of k (rows_of es)) n at in
+        omega (arith, after.2, more after.0 after.1)
+
+-- a key without a place is none of the entries'
+pub none_found : (es : Entries) (k : List ℕ) → place_of k es ≡ None → found k es ≡ null
+none_found no_entries k = λ at. refl
+none_found (entry j v es) k = go (bytes_eq j k) (none_found es k)
+  where
+    go : (b : Bool) → (place_of k es ≡ None → found k es ≡ null) → (if b then Some 0 else option_map suc (place_of k es)) ≡ None → (if b then v else found k es) ≡ null
+    go true more at = absurd cc
+    go false more at = more (none_behind (place_of k es) at)
+
+-- the keys that have a place are those of the entries
+pub key_placed : (es : Entries) (k : List ℕ) → is_some (place_of k es) ≡ list_any (λ j. bytes_eq j k) (entry_keys es)
+key_placed no_entries k = refl
+key_placed (entry j v es) k = go (bytes_eq j k) (key_placed es k)
+  where
+    moved : (o : Option ℕ) → is_some (option_map suc o) ≡ is_some o
+    moved None = refl
+    moved (Some n) = refl
+
+    go : (b : Bool) → is_some (place_of k es) ≡ list_any (λ i. bytes_eq i k) (entry_keys es) → is_some (if b then Some 0 else option_map suc (place_of k es)) ≡ (b || list_any (λ i. bytes_eq i k) (entry_keys es))
+    go true more = refl
+    go false more = moved (place_of k es) ∙ more
+
+-- the place of a key behind n entries, one entry after the other
+pub place_first : (o : Option ℕ) → o ≡ option_map (λ k. 0 + k) o
+place_first None = refl
+place_first (Some k) = ap Some (let q : k ≡ 0 + k = omega arith in q)
+
+pub place_here : (es : List (RcStr Global × Val)) (f : RcStr Global × Val) (k : List ℕ) (n : ℕ) → bytes_eq (rc_str_bytes f.0) k ≡ true → option_map (λ i. n + i) (place_of k (rows_of (f ∷ es))) ≡ Some n
+place_here es f k n e = rw e (ap Some (let q : n + 0 ≡ n = omega arith in q))
+
+pub place_behind : (es : List (RcStr Global × Val)) (f : RcStr Global × Val) (k : List ℕ) (n : ℕ) → bytes_eq (rc_str_bytes f.0) k ≡ false → option_map (λ i. n + i) (place_of k (rows_of (f ∷ es))) ≡ option_map (λ i. n + 1 + i) (place_of k (rows_of es))
+place_behind es f k n e = rw e (moved (place_of k (rows_of es)))
+  where
+    moved : (o : Option ℕ) → option_map (λ i. n + i) (option_map suc o) ≡ option_map (λ i. n + 1 + i) o
+    moved None = refl
+    moved (Some i) = ap Some (let q : n + suc i ≡ n + 1 + i = omega arith in q)

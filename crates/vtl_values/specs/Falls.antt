@@ -27,4 +27,4 @@ depth_falls (shape.Number t) = omega arith
 depth_falls (shape.Str s) = omega arith
 depth_falls (shape.List r size) = omega (arith, items_fall r.value.items)
 depth_falls (shape.Range a b) = omega arith
-depth_falls (shape.Map r size) = omega (arith, rows_fall r.value.items)
+depth_falls (shape.Map r size places) = omega (arith, rows_fall r.value.items)

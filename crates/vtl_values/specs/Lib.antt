@@ -10,7 +10,7 @@ pub mod Making
 pub mod Operations
 -- parts of a value: members, items, and what a loop goes over
 pub mod Parts
--- where the keys of a map that is made stand
+-- where the keys of a map stand
 pub mod Places
 -- how values are printed
 pub mod Printed

@@ -1,10 +1,11 @@
--- Which tree a value of the program stands for, one clause for each variant, and when the size kept beside it is right.
+-- Which tree a value of the program stands for, one clause for each variant, and when the size and the places kept beside it are right.
 use Rattle.std.specs.Prelude.{◌≡◌, ◌≤◌, ◌^◌, ◌-◌, min, List, [], ◌∷◌}
 use Rattle.std.specs.Rc.{rc_str_bytes}
 use Rattle.std.specs.declared.rc.RcStr.{RcStr}
 use Rattle.std.specs.declared.alloc.Global.{Global}
 use Rattle.vtl_values.specs.Val.{Val, Entries, null, boolean, whole, number, text, list, range, no_entries, entry, vals_of, depth, string_bytes}
 use Rattle.vtl_values.specs.Val as tree
+use Rattle.vtl_values.specs.Places.{IsIndexed}
 use Rattle.vtl_values.specs.declared.value.Shape.{Shape}
 use Rattle.vtl_values.specs.declared.value.Size.{Size}
 use Rattle.vtl_values.specs.declared.value.Shape.TheVariants as shape
@@ -21,7 +22,7 @@ val_of (shape.Number t) = number (rc_str_bytes t)
 val_of (shape.Str s) = text (rc_str_bytes s)
 val_of (shape.List r size) = list (vals_of r.value.items)
 val_of (shape.Range a b) = range a b
-val_of (shape.Map r size) = tree.map (rows_of r.value.items)
+val_of (shape.Map r size places) = tree.map (rows_of r.value.items)
 
 -- the depth and the bytes, at most 2^64 - 1, are those of the value
 pub record Sizes (v : Val) (size : Size) : Type 0 where
@@ -37,4 +38,4 @@ IsMeasured (shape.Number t) = Unit {0}
 IsMeasured (shape.Str s) = Unit {0}
 IsMeasured (shape.List r size) = Sizes (list (vals_of r.value.items)) size
 IsMeasured (shape.Range a b) = Unit {0}
-IsMeasured (shape.Map r size) = Sizes (tree.map (rows_of r.value.items)) size
+IsMeasured (shape.Map r size places) = Sizes (tree.map (rows_of r.value.items)) size × IsIndexed (rows_of r.value.items) places

@@ -5,7 +5,7 @@
 //! * [`print`] writes a value as text, within a number of bytes. What doesn't fit leaves a front of it.
 //! * [`add`], [`subtract`], [`less`] and the others are the operators, and [`equal`] compares.
 //! * [`ListMaker`], [`MapMaker`] and [`ranged`] make lists, maps and ranges.
-//! * [`member`], [`item_at`], [`loop_length`] and [`loop_item`] give the parts of a value, [`list_item`], [`entry_key`] and
+//! * [`member`], [`has_key`], [`item_at`], [`loop_length`] and [`loop_item`] give the parts of a value, [`list_item`], [`entry_key`] and
 //!   [`entry_value`] lend them. [`Value::view`] lends all of a value, to be matched on as a [`View`].
 //!
 //! ```text
@@ -35,7 +35,8 @@
 //! printed form behind it. Want of memory is the one answer without a cause.
 //!
 //! How it is built, not promised: a value's depth and the bytes of its strings are kept beside it, and no call walks a
-//! value to find them. A map is searched from its first entry on.
+//! value to find them. A map of more than 16 keys has their places beside it, so that a key is found in the logarithm of
+//! their number; it is printed and looped over in the order of its entries, as any other.
 #![tactic(auto)]
 
 mod arithmetic;
@@ -43,6 +44,7 @@ mod equality;
 mod lack;
 mod makers;
 mod parts;
+mod places;
 mod printing;
 mod value;
 mod view;
@@ -54,8 +56,8 @@ pub use equality::equal;
 pub use lack::Lack;
 pub use makers::{ListMaker, MapMaker, ranged};
 pub use parts::{
-    entry_count, entry_key, entry_value, item_at, list_item, list_length, loop_item, loop_length,
-    member, size,
+    entry_count, entry_key, entry_value, has_key, item_at, list_item, list_length, loop_item,
+    loop_length, member, size,
 };
 pub use printing::print;
 pub use value::Value;

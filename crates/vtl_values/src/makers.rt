@@ -1,8 +1,6 @@
 // Lists, maps and ranges that are made.
 ghost use Rattle.std.specs.Prelude.{◌≡◌, ◌++◌, ◌+◌, ◌-◌, ◌^◌, ◌≤◌, ◌<◌, [], ◌∷◌, List, ℕ, min, IfOk, OnOk, OnErr, Some, if◌then◌else◌};
 ghost use Rattle.std.specs.Rc.{rc_str_bytes};
-ghost use Rattle.std.specs.BTreeMap.{get_by_text};
-ghost use Rattle.std.specs.Str.{bytes_eq};
 ghost use Rattle.std.specs.String.{string_bytes as bytes_in};
 ghost use Rattle.vtl_values.specs.Val.{no_entries, vals_of, vals_depth, vals_bytes, entries_depth, entries_bytes, list, map};
 ghost use Rattle.vtl_values.specs.Vals.{rows_of};
@@ -11,6 +9,7 @@ ghost use Rattle.vtl_values.specs.Making.{listed, mapped, ranged as ranged_of, s
 ghost use Rattle.vtl_values.specs.Places.{ArePlaced};
 
 use crate::lack::Lack;
+use crate::places::{Places, keep, note, place_of_key};
 use crate::printing::print;
 use crate::value::{Shape, Size, Value};
 use gw_base::Memory;
@@ -159,8 +158,8 @@ impl MapMaker {
         if some_key_is_null(&pairs) {
             return Ok(Value::null());
         }
-        let entries = gather(alloc, &pairs)?;
-        close_map(alloc, entries)
+        let (entries, places) = gather(alloc, &pairs)?;
+        close_map(alloc, entries, places)
     }
 }
 
@@ -175,8 +174,10 @@ fn some_key_is_null(pairs: &[(Value, Value)]) -> bool
     false
 }
 
-fn gather(alloc: Global, pairs: &[(Value, Value)]) -> Result<Vec<(RcStr, Value)>, Memory>
-    ensures { IfOk result (λ es. rows_of es.items ≡ gathered no_entries pairs.now) }
+// The entries of these pairs, and the places of their keys.
+fn gather(alloc: Global, pairs: &[(Value, Value)]) -> Result<(Vec<(RcStr, Value)>, Places), Memory>
+    ensures entries { IfOk result (λ g. rows_of g.0.items ≡ gathered no_entries pairs.now) }
+    ensures places { IfOk result (λ g. ArePlaced (rows_of g.0.items) g.1) }
 {
     let mut entries = Vec::new(alloc);
     let mut places = BTreeMap::new(alloc);
@@ -185,7 +186,7 @@ fn gather(alloc: Global, pairs: &[(Value, Value)]) -> Result<Vec<(RcStr, Value)>
         let value = pair.1.copied()?;
         enter(alloc, &mut entries, &mut places, key, value)?;
     }
-    Ok(entries)
+    Ok((entries, places))
 }
 
 fn key_text(alloc: Global, key: &Value) -> Result<RcStr, Memory>
@@ -205,7 +206,7 @@ fn key_text(alloc: Global, key: &Value) -> Result<RcStr, Memory>
 fn enter(
     alloc: Global,
     entries: &mut Vec<(RcStr, Value)>,
-    places: &mut BTreeMap<String, usize>,
+    places: &mut Places,
     key: RcStr,
     value: Value,
 ) -> Result<(), Memory>
@@ -226,33 +227,16 @@ fn enter(
     }
 }
 
-fn place_of_key(places: &BTreeMap<String, usize>, key: &str) -> Option<usize>
-    ensures { result ≡ get_by_text places.now key.now }
-{
-    places.get(key).copied()
-}
-
-fn note(
-    alloc: Global,
-    places: &mut BTreeMap<String, usize>,
-    key: &str,
-    n: usize,
-) -> Result<(), Memory>
-    ensures { OnOk result ((q : List ℕ) → get_by_text places.new q ≡ (if bytes_eq key.now q then Some n else get_by_text places.old q)) }
-{
-    let name = String::from_str(alloc, key)?;
-    places.insert(name, n)?;
-    Ok(())
-}
-
-fn close_map(alloc: Global, entries: Vec<(RcStr, Value)>) -> Result<Value, Memory>
+fn close_map(alloc: Global, entries: Vec<(RcStr, Value)>, places: Places) -> Result<Value, Memory>
+    requires { ArePlaced (rows_of entries.items) places }
     ensures { IfOk result (λ v. v ≡ shallow (map (rows_of entries.items))) }
 {
     let size = measure_entries(&entries);
     if size.depth < 64 {
+        let places = keep(alloc, &entries, places)?;
         let entries = Rc::new(alloc, entries)?;
         Ok(Value {
-            shape: Shape::Map(entries, deeper(size)),
+            shape: Shape::Map(entries, deeper(size), places),
         })
     } else {
         Ok(Value::null())

@@ -1,40 +1,65 @@
 // Parts of a value.
 ghost use Rattle.std.specs.Prelude.{◌≡◌, ◌<◌, ◌≤◌, ℕ, suc, min, map, length, slice_get, take, option_map, IfOk, Some, None};
+ghost use Rattle.std.specs.List.{list_any};
 ghost use Rattle.std.specs.Rc.{rc_str_bytes};
+ghost use Rattle.std.specs.Str.{bytes_eq};
 ghost use Rattle.vtl_values.specs.Val.{whole, list, range, vals_of, vals_list};
 ghost use Rattle.vtl_values.specs.Val as tree;
+ghost use Rattle.vtl_values.specs.Places.{IsIndexed};
 ghost use Rattle.vtl_values.specs.Vals.{rows_of};
 ghost use Rattle.vtl_values.specs.Ranges.{span, distance};
 ghost use Rattle.vtl_values.specs.Parts.{found, member_of, item_at as item_at_of, items_in, all_items, placed, or_null, loop_items, list_items, map_keys, map_values, size_of, within_i64, entry_keys, entry_values};
 
+use crate::places::{Places, place};
 use crate::printing::number_at;
 use crate::value::{Shape, Value};
 use gw_base::Memory;
-use std::rc::RcStr;
+use std::rc::{Rc, RcStr};
 
 /// The most turns of a loop.
 const MOST_TURNS: usize = 1000;
 
-/// The value of this key of a map; of anything else null.
+/// The value of this key of a map; of anything else null. Among many keys it takes their logarithm.
 #[tactic(auto, unfolding(crate::specs::Parts::member_of))]
 pub fn member(value: &Value, name: &str) -> Result<Value, Memory>
     ensures { IfOk result (λ v. v ≡ member_of name.now value.now) }
 {
     match &value.shape {
-        Shape::Map(entries, _) => find(entries, name),
+        Shape::Map(entries, _, places) => find(entries, places, name),
         _ => Ok(Value::null()),
     }
 }
 
-fn find(entries: &[(RcStr, Value)], name: &str) -> Result<Value, Memory>
+fn find(
+    entries: &[(RcStr, Value)],
+    places: &Option<Rc<Places>>,
+    name: &str,
+) -> Result<Value, Memory>
+    requires { IsIndexed (rows_of entries.now) places.now }
     ensures { IfOk result (λ v. v ≡ found name.now (rows_of entries.now)) }
 {
-    for entry in entries {
-        if entry.0.as_str() == name {
-            return entry.1.copied();
-        }
+    match place(entries, places, name) {
+        Some(n) => entries[n].1.copied(),
+        None => Ok(Value::null()),
     }
-    Ok(Value::null())
+}
+
+/// Whether a map has this key; anything else has none. Among many keys it takes their logarithm.
+pub fn has_key(value: &Value, name: &str) -> bool
+    ensures { result ≡ list_any (λ k. bytes_eq k name.now) (map_keys value.now) }
+{
+    match &value.shape {
+        Shape::Map(entries, _, places) => is_key(entries, places, name),
+        _ => false,
+    }
+}
+
+#[tactic(auto, using(crate::proofs::Rows::key_placed))]
+fn is_key(entries: &[(RcStr, Value)], places: &Option<Rc<Places>>, name: &str) -> bool
+    requires { IsIndexed (rows_of entries.now) places.now }
+    ensures { result ≡ list_any (λ k. bytes_eq k name.now) (entry_keys (rows_of entries.now)) }
+{
+    place(entries, places, name).is_some()
 }
 
 /// The item of a list or range at a whole index, counted from 0, or the value of a map at a text; else null.
@@ -43,14 +68,14 @@ pub fn item_at(index: &Value, value: &Value) -> Result<Value, Memory>
     ensures { IfOk result (λ v. v ≡ item_at_of index.now value.now) }
 {
     match &index.shape {
-        Shape::Whole(n) => place(*n, value),
+        Shape::Whole(n) => item_placed(*n, value),
         Shape::Str(key) => member(value, key.as_str()),
         _ => Ok(Value::null()),
     }
 }
 
 #[tactic(auto, using(crate::proofs::Items::list_get, crate::proofs::Items::list_count))]
-fn place(n: i64, value: &Value) -> Result<Value, Memory>
+fn item_placed(n: i64, value: &Value) -> Result<Value, Memory>
     ensures { IfOk result (λ v. v ≡ placed n (items_in value.now)) }
 {
     if n < 0 {
@@ -101,7 +126,7 @@ pub fn loop_length(value: &Value) -> usize
                 MOST_TURNS
             }
         }
-        Shape::Map(entries, _) => entries.len().min(MOST_TURNS),
+        Shape::Map(entries, _, _) => entries.len().min(MOST_TURNS),
         _ => 0,
     }
 }
@@ -115,7 +140,7 @@ pub fn loop_item(value: &Value, n: usize) -> Result<Value, Memory>
     match &value.shape {
         Shape::List(items, _) => list_turn(items, n),
         Shape::Range(first, last) => Ok(range_turn(*first, *last, n)),
-        Shape::Map(entries, _) => map_turn(entries, n),
+        Shape::Map(entries, _, _) => map_turn(entries, n),
         _ => Ok(Value::null()),
     }
 }
@@ -167,7 +192,7 @@ pub fn size(value: &Value) -> Option<i64>
     match &value.shape {
         Shape::List(items, _) => to_i64(items.len() as u64),
         Shape::Range(first, last) => range_size(*first, *last),
-        Shape::Map(entries, _) => to_i64(entries.len() as u64),
+        Shape::Map(entries, _, _) => to_i64(entries.len() as u64),
         _ => None,
     }
 }
@@ -230,7 +255,7 @@ pub fn entry_count(value: &Value) -> usize
     ensures values { result ≡ length (map_values value.now) }
 {
     match &value.shape {
-        Shape::Map(entries, _) => entries.len(),
+        Shape::Map(entries, _, _) => entries.len(),
         _ => 0,
     }
 }
@@ -240,7 +265,7 @@ pub fn entry_key(value: &Value, n: usize) -> Option<&RcStr>
     ensures { option_map (λ k. rc_str_bytes k.now) result ≡ slice_get (map_keys value.now) n }
 {
     match &value.shape {
-        Shape::Map(entries, _) => key_at(entries, n),
+        Shape::Map(entries, _, _) => key_at(entries, n),
         _ => None,
     }
 }
@@ -261,7 +286,7 @@ pub fn entry_value(value: &Value, n: usize) -> Option<&Value>
     ensures { option_map (λ v. v.now) result ≡ slice_get (map_values value.now) n }
 {
     match &value.shape {
-        Shape::Map(entries, _) => value_at(entries, n),
+        Shape::Map(entries, _, _) => value_at(entries, n),
         _ => None,
     }
 }

@@ -33,7 +33,7 @@ pub fn print(value: &Value, text: &mut String, most: u64) -> Result<(), Lack>
         Shape::Str(s) => write(text, s.as_str(), most),
         Shape::List(items, _) => print_list(items, text, most),
         Shape::Range(first, last) => print_range(*first, *last, text, most),
-        Shape::Map(entries, _) => print_map(entries, text, most),
+        Shape::Map(entries, _, _) => print_map(entries, text, most),
     }
 }
 

@@ -5,6 +5,7 @@ ghost use Rattle.vtl_values.specs.Val.{Val, null as null_val, boolean as boolean
 ghost use Rattle.vtl_values.specs.Kinds.{whole_in, bool_in, text_in};
 ghost use Rattle.vtl_values.specs.Truth.{is_null as is_null_val, is_true as is_true_val};
 
+use crate::places::{Places, share};
 use gw_base::Memory;
 use std::marker::Model;
 use std::rc::{Rc, RcStr};
@@ -34,8 +35,8 @@ pub enum Shape {
     List(Rc<Vec<Value>>, Size),
     /// The whole numbers from the first to the second, counting down where the first is the greater.
     Range(i64, i64),
-    /// Keys and values in order, and their size.
-    Map(Rc<Vec<(RcStr, Value)>>, Size),
+    /// Keys and values in order, their size, and the places of the keys where these are many.
+    Map(Rc<Vec<(RcStr, Value)>>, Size, Option<Rc<Places>>),
 }
 
 /// A value of a template expression, at most 64 deep. Lists and maps are shared, and nothing walks one to find its depth
@@ -153,10 +154,11 @@ impl Value {
             Shape::Range(first, last) => Ok(Value {
                 shape: Shape::Range(*first, *last),
             }),
-            Shape::Map(entries, size) => {
+            Shape::Map(entries, size, places) => {
                 let entries = entries.clone()?;
+                let places = share(places)?;
                 Ok(Value {
-                    shape: Shape::Map(entries, *size),
+                    shape: Shape::Map(entries, *size, places),
                 })
             }
         }
@@ -221,7 +223,7 @@ impl Value {
         match &self.shape {
             Shape::List(_, size) => size.depth,
             Shape::Range(_, _) => 1,
-            Shape::Map(_, size) => size.depth,
+            Shape::Map(_, size, _) => size.depth,
             _ => 0,
         }
     }
@@ -233,7 +235,7 @@ impl Value {
         match &self.shape {
             Shape::Str(s) => s.len() as u64,
             Shape::List(_, size) => size.bytes,
-            Shape::Map(_, size) => size.bytes,
+            Shape::Map(_, size, _) => size.bytes,
             _ => 0,
         }
     }

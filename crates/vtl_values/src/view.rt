@@ -39,7 +39,7 @@ impl Value {
             Shape::Str(s) => View::Text(s),
             Shape::List(items, _) => View::List(items),
             Shape::Range(first, last) => View::Range(*first, *last),
-            Shape::Map(entries, _) => View::Map(entries),
+            Shape::Map(entries, _, _) => View::Map(entries),
         }
     }
 }

@@ -14,7 +14,7 @@ returns-in-List c =
 
 pub returns-in-Object : goal.returns-in-Object
 returns-in-Object c =
-    let e : c.len-in-Object.result ≡ length c.in-Object.members.items = search rules in
+    let e : c.len-in-Object.result ≡ length c.in-Object.members.list.items = search rules in
     ap kinds.Object e
-    ∙ ap kinds.Object (sym (count_pairs (tree_of c.args.text.now c.args.nodes.now) c.in-Object.members.items))
+    ∙ ap kinds.Object (sym (count_pairs (tree_of c.args.text.now c.args.nodes.now) c.in-Object.members.list.items))
     ∙ sym (ap kind (form_is c.args.text.now c.args.nodes.now c.args.k c.node_at-node.result.now _ c.node_at-node.ensures.opened c.in-Object.is))

@@ -11,6 +11,7 @@ returns-clause-kept c =
     (keeps_push _ _ _ c.requires.sound (record {
       below = c.requires.below;
       counted = c.requires.counted;
+      indexed = c.requires.indexed;
       ordered = span_ordered _ _ _ c.requires.utf8 c.requires.front c.requires.inside;
       within = omega arith;
       front = span_front _ _ _ c.requires.utf8 c.requires.front c.requires.inside;
@@ -24,6 +25,7 @@ returns-clause-tree c =
     (tree_push c.args.text.now c.args.nodes.now.items _ c.requires.sound (record {
       below = c.requires.below;
       counted = c.requires.counted;
+      indexed = c.requires.indexed;
       ordered = span_ordered _ _ _ c.requires.utf8 c.requires.front c.requires.inside;
       within = omega arith;
       front = span_front _ _ _ c.requires.utf8 c.requires.front c.requires.inside;

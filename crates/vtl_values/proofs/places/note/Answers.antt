@@ -4,7 +4,7 @@ use Rattle.std.specs.Str.{bytes_eq}
 use Rattle.std.specs.String.{string_bytes}
 use Rattle.std.specs.BTreeMap.{get_by_text}
 use Rattle.std.proofs.lemmas.Map.Text.{btree_map_updates_text}
-use Rattle.vtl_values.proofs.makers.note.Goals as goal
+use Rattle.vtl_values.proofs.places.note.Goals as goal
 
 pub returns : goal.returns
 returns c =

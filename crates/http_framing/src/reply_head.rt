@@ -9,7 +9,7 @@ use crate::fill::{Filled, fill_line};
 use crate::framing::MAX_FIELDS;
 use crate::front::Front;
 use crate::read_ahead::ReadAhead;
-use crate::room::{ROOM, make_room};
+use crate::room::{FEW_FIELDS, ROOM, make_room};
 use gw_base::{Memory, Source};
 use httparse::Status;
 use httparse::spans::{HeaderSpan, ResponseSpans, parse_response};
@@ -29,8 +29,8 @@ fn front_in(buf: &[u8], room: &mut [HeaderSpan]) -> Option<Front<ResponseSpans>>
     }
 }
 
-// What stands at the front of a buffer. Only a head of more than 100 fields, which is refused in the end, takes the large
-// room.
+// What stands at the front of a buffer. The room grows where a head has more fields, and stays: only a head of more than 100,
+// which is refused in the end, takes the large one.
 fn read_front(
     alloc: Global,
     buf: &[u8],
@@ -39,6 +39,10 @@ fn read_front(
     requires { length buf.now ≤ 10240 }
     ensures { IfOk result (IsReplyFront buf.now room.new.items) }
 {
+    make_room(alloc, room, FEW_FIELDS)?;
+    if let Some(front) = front_in(buf, room.as_mut_slice()) {
+        return Ok(front);
+    }
     make_room(alloc, room, MAX_FIELDS)?;
     if let Some(front) = front_in(buf, room.as_mut_slice()) {
         return Ok(front);

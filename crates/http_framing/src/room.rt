@@ -5,6 +5,9 @@ use gw_base::Memory;
 use httparse::spans::{EMPTY_HEADER_SPAN, HeaderSpan};
 use std::alloc::Global;
 
+/// As many fields as most heads have at most.
+pub const FEW_FIELDS: usize = 16;
+
 /// More fields than the longest head can hold, since a field has three bytes at least. So the parser sees every field
 /// of a head, and a byte that no head can have is told before the fields are counted.
 pub const ROOM: usize = 3414;

@@ -1,11 +1,14 @@
 // The connections of a script: their bytes, and their lines.
-ghost use Rattle.std.specs.Prelude.{◌≡◌, ◌++◌, All, map, IfOk, OnOk};
+ghost use Rattle.std.specs.Prelude.{◌≡◌, [], ◌∷◌, ◌++◌, All, map, codes, IfOk, OnOk};
+ghost use Rattle.std.specs.List.{concat};
 ghost use Rattle.std.specs.String.{string_bytes};
 ghost use Rattle.backend_core.specs.Script.{HasReplyStatus, outcome_of};
-ghost use Rattle.play_script.specs.Calls.{post_target as post_target_of, post_fields as post_fields_of, post_bytes as post_bytes_of, answer_line as answer_line_of, full_lines as full_lines_of, connection_lines as connection_lines_of, sent_line as sent_line_of, sent_lines as sent_lines_of, end_of as end_of_connection};
+ghost use Rattle.gate_walk.specs.Printed.{ended_name};
+ghost use Rattle.record_fields.specs.Writing.{coded};
+ghost use Rattle.play_script.specs.Calls.{post_target as post_target_of, post_fields as post_fields_of, post_bytes as post_bytes_of, answer_line as answer_line_of, full_lines as full_lines_of, connection_lines as connection_lines_of, sent_lines as sent_lines_of, end_of as end_of_connection};
 ghost use Rattle.play_script.specs.Play.{IsTalk};
+ghost use Rattle.play_script.specs.Printed.{line_feed};
 
-use crate::joining::join;
 use crate::printed::full_line;
 use crate::turns::{End, Said};
 use backend_core::{Scripted, WireRequest};
@@ -15,78 +18,94 @@ use record_fields::encode;
 use std::alloc::Global;
 use std::sync::Wait;
 
+// The room that a text begins with, enough for most posts and for the lines of most connections; it grows where it is not.
+const ROOM: usize = 256;
+
+// Appends the target of a `post`.
 #[tactic(auto, unfolding(crate::specs::Calls::post_target))]
-fn post_target(alloc: Global, api: &str, stage: &str) -> Result<Text, Memory>
-    ensures { IfOk result (λ text. text ≡ post_target_of api.now stage.now) }
+fn append_target(text: &mut String, api: &str, stage: &str) -> Result<(), Memory>
+    ensures { OnOk result (string_bytes text.new ≡ string_bytes text.old ++ post_target_of api.now stage.now) }
 {
-    join(alloc, &["POST /", api, "/", stage])
+    text.push_str("POST /")?;
+    text.push_str(api)?;
+    text.push_str("/")?;
+    text.push_str(stage)?;
+    Ok(())
 }
 
+// Appends its fields, of a body of this length.
 #[tactic(auto, unfolding(crate::specs::Calls::post_fields))]
-fn post_fields(alloc: Global, length: usize) -> Result<Text, Memory>
-    ensures { IfOk result (λ text. text ≡ post_fields_of length) }
+fn append_fields(text: &mut String, length: usize) -> Result<(), Memory>
+    ensures { OnOk result (string_bytes text.new ≡ string_bytes text.old ++ post_fields_of length) }
 {
-    let length = length.to_string(alloc)?;
-    join(
-        alloc,
-        &[
-            " HTTP/1.1\r\nhost: localhost\r\ncontent-length: ",
-            length.as_str(),
-            "\r\n\r\n",
-        ],
-    )
+    write!(
+        text,
+        " HTTP/1.1\r\nhost: localhost\r\ncontent-length: {length}\r\n\r\n"
+    )?;
+    Ok(())
 }
 
 /// The bytes of a `post`.
 pub fn post_bytes(alloc: Global, api: &str, stage: &str, body: &str) -> Result<Text, Memory>
     ensures { IfOk result (λ bytes. bytes ≡ post_bytes_of api.now stage.now body.now) }
 {
-    let fields = post_fields(alloc, body.len())?;
-    let mut text = post_target(alloc, api, stage)?.into_inner();
-    text.push_str(fields.as_str())?;
+    let mut text = String::with_capacity(alloc, ROOM)?;
+    append_target(&mut text, api, stage)?;
+    append_fields(&mut text, body.len())?;
     text.push_str(body)?;
     Ok(Text::of(text))
 }
 
-// The line of a request that was sent to a backend.
-fn sent_line(alloc: Global, request: &WireRequest) -> Result<Text, Memory>
-    ensures { IfOk result (λ line. line ≡ sent_line_of request.now) }
+// Appends a line of some bytes, behind a word.
+fn append_bytes(alloc: Global, text: &mut String, word: &str, bytes: &[u8]) -> Result<(), Memory>
+    ensures { OnOk result (string_bytes text.new ≡ string_bytes text.old ++ concat (word.now ∷ coded bytes.now ∷ line_feed ∷ [])) }
 {
-    let bytes = encode(alloc, request.bytes.as_slice())?;
-    join(alloc, &["sent ", bytes.as_str(), "\n"])
+    let bytes = encode(alloc, bytes)?;
+    text.push_str(word)?;
+    text.push_str(bytes.as_str())?;
+    text.push_str("\n")?;
+    Ok(())
 }
 
-fn sent_lines(alloc: Global, requests: &[WireRequest]) -> Result<Text, Memory>
-    ensures { IfOk result (λ lines. lines ≡ sent_lines_of requests.now) }
+// Appends the lines of the requests that were sent to backends.
+fn append_sent(alloc: Global, text: &mut String, requests: &[WireRequest]) -> Result<(), Memory>
+    ensures { OnOk result (string_bytes text.new ≡ string_bytes text.old ++ sent_lines_of requests.now) }
 {
-    let mut lines = String::new(alloc);
     for request in requests {
-        let line = sent_line(alloc, request)?;
-        lines.push_str(line.as_str())?;
+        append_bytes(alloc, text, "sent ", request.bytes.as_slice())?;
     }
-    Ok(Text::of(lines))
+    Ok(())
 }
 
-// All bytes that were written, where there are any.
-fn answer_line(alloc: Global, written: &[u8]) -> Result<Text, Memory>
-    ensures { IfOk result (λ line. line ≡ answer_line_of written.now) }
+// Appends the line of all bytes that were written, where there are any.
+fn append_answer(alloc: Global, text: &mut String, written: &[u8]) -> Result<(), Memory>
+    ensures { OnOk result (string_bytes text.new ≡ string_bytes text.old ++ answer_line_of written.now) }
 {
     match written {
-        [] => Ok(Text::of(String::new(alloc))),
-        [_, ..] => {
-            let bytes = encode(alloc, written)?;
-            join(alloc, &["answer ", bytes.as_str(), "\n"])
-        }
+        [] => Ok(()),
+        [_, ..] => append_bytes(alloc, text, "answer ", written),
     }
 }
 
-// The line that ends a play where the session is full.
-fn full_lines(alloc: Global, ended: Ended) -> Result<Text, Memory>
-    ensures { IfOk result (λ lines. lines ≡ full_lines_of ended) }
+// Appends the line that tells how a connection ended.
+fn append_end(text: &mut String, ended: Ended) -> Result<(), Memory>
+    ensures { OnOk result (string_bytes text.new ≡ string_bytes text.old ++ concat (codes "ended " ∷ ended_name ended ∷ line_feed ∷ [])) }
+{
+    writeln!(text, "ended {ended}")?;
+    Ok(())
+}
+
+// Appends the line that ends a play where the session is full.
+fn append_full(alloc: Global, text: &mut String, ended: Ended) -> Result<(), Memory>
+    ensures { OnOk result (string_bytes text.new ≡ string_bytes text.old ++ full_lines_of ended) }
 {
     match ended {
-        Ended::SessionFull { entries, bytes } => full_line(alloc, SessionFull { entries, bytes }),
-        _ => Ok(Text::of(String::new(alloc))),
+        Ended::SessionFull { entries, bytes } => {
+            let line = full_line(alloc, SessionFull { entries, bytes })?;
+            text.push_str(line.as_str())?;
+            Ok(())
+        }
+        _ => Ok(()),
     }
 }
 
@@ -99,21 +118,12 @@ fn connection_lines(
 ) -> Result<Text, Memory>
     ensures { IfOk result (λ lines. lines ≡ connection_lines_of requests.now written.now ended) }
 {
-    let sent = sent_lines(alloc, requests)?;
-    let answer = answer_line(alloc, written)?;
-    let name = ended.to_string(alloc)?;
-    let full = full_lines(alloc, ended)?;
-    join(
-        alloc,
-        &[
-            sent.as_str(),
-            answer.as_str(),
-            "ended ",
-            name.as_str(),
-            "\n",
-            full.as_str(),
-        ],
-    )
+    let mut text = String::with_capacity(alloc, ROOM)?;
+    append_sent(alloc, &mut text, requests)?;
+    append_answer(alloc, &mut text, written)?;
+    append_end(&mut text, ended)?;
+    append_full(alloc, &mut text, ended)?;
+    Ok(Text::of(text))
 }
 
 // A play ends behind a connection on which the session was full.

@@ -1,189 +1,185 @@
 // The record of a line.
-ghost use Rattle.std.specs.Prelude.{◌≡◌, ◌≢◌, Ok, Err, IfOk, option_map};
+ghost use Rattle.std.specs.Prelude.{◌≡◌, Ok, Err, drop, IfOk, option_map};
+ghost use Rattle.record_fields.specs.Coding.{text_of};
 ghost use Rattle.play_script.specs.Records.{text_record as text_record_of, api_record as api_record_of, post_record as post_record_of, call_record as call_record_of, call_fields as call_fields_of, text_fields as text_fields_of, api_fields as api_fields_of, post_fields as post_fields_of, record_of as record_of_fields, record_in as record_in_line, numbers_of, keepfails_fields as keepfails_fields_of, keepfails_of as keepfails_of_fields, fails_in as fails_in_line};
 
 use crate::records::{LineFault, Reading, Record};
 use crate::stages::record_of_stages;
-use gw_base::{Bytes, Memory, Seq, is_name};
-use record_fields::{fields_in, number, small_number, text_of};
+use gw_base::{Bytes, Memory, Seq, Text, is_name};
+use record_fields::{fields_in, number, small_number};
 use std::alloc::Global;
 
-#[tactic(auto, unfolding(crate::specs::Records::text_record))]
-fn text_record(alloc: Global, moment: &[u8], api: &[u8], template: &[u8]) -> Result<Reading, Memory>
-    ensures { IfOk result (λ r. r ≡ text_record_of moment.now api.now template.now) }
+// The text of a field, where it is UTF-8, without memory.
+fn text_in(field: Bytes) -> Option<Text>
+    ensures { result ≡ text_of field }
 {
-    let Some(moment) = number(moment) else {
-        return Ok(Err(LineFault::BadRecord));
+    match String::from_utf8(field.into_inner()) {
+        Ok(text) => Some(Text::of(text)),
+        Err(_) => None,
+    }
+}
+
+#[tactic(auto, unfolding(crate::specs::Records::text_record))]
+fn text_record(moment: Bytes, api: Bytes, template: Bytes) -> Reading
+    ensures { result ≡ text_record_of moment api template }
+{
+    let Some(moment) = number(moment.as_slice()) else {
+        return Err(LineFault::BadRecord);
     };
-    let Some(api) = text_of(alloc, api)? else {
-        return Ok(Err(LineFault::BadRecord));
+    let Some(api) = text_in(api) else {
+        return Err(LineFault::BadRecord);
     };
-    let Some(template) = text_of(alloc, template)? else {
-        return Ok(Err(LineFault::BadRecord));
+    let Some(template) = text_in(template) else {
+        return Err(LineFault::BadRecord);
     };
-    Ok(Ok(Record::PutText {
+    Ok(Record::PutText {
         moment,
         api,
         template,
-    }))
+    })
 }
 
 #[tactic(auto, unfolding(crate::specs::Records::api_record))]
-fn api_record(alloc: Global, moment: &[u8], api: &[u8], document: &[u8]) -> Result<Reading, Memory>
-    ensures { IfOk result (λ r. r ≡ api_record_of moment.now api.now document.now) }
+fn api_record(moment: Bytes, api: Bytes, document: Bytes) -> Reading
+    ensures { result ≡ api_record_of moment api document }
 {
-    let Some(moment) = number(moment) else {
-        return Ok(Err(LineFault::BadRecord));
+    let Some(moment) = number(moment.as_slice()) else {
+        return Err(LineFault::BadRecord);
     };
-    let Some(api) = text_of(alloc, api)? else {
-        return Ok(Err(LineFault::BadRecord));
+    let Some(api) = text_in(api) else {
+        return Err(LineFault::BadRecord);
     };
-    let Some(document) = text_of(alloc, document)? else {
-        return Ok(Err(LineFault::BadRecord));
+    let Some(document) = text_in(document) else {
+        return Err(LineFault::BadRecord);
     };
-    Ok(Ok(Record::PutDocument {
+    Ok(Record::PutDocument {
         moment,
         api,
         document,
-    }))
+    })
 }
 
 #[tactic(auto, unfolding(crate::specs::Records::post_record))]
-fn post_record(
-    alloc: Global,
-    moment: &[u8],
-    word: &[u8],
-    api: &[u8],
-    stage: &[u8],
-    body: &[u8],
-) -> Result<Reading, Memory>
-    ensures { IfOk result (λ r. r ≡ post_record_of moment.now word.now api.now stage.now body.now) }
+fn post_record(moment: Bytes, word: Bytes, api: Bytes, stage: Bytes, body: Bytes) -> Reading
+    ensures { result ≡ post_record_of moment word api stage body }
 {
-    let Some(moment) = number(moment) else {
-        return Ok(Err(LineFault::BadRecord));
+    let Some(moment) = number(moment.as_slice()) else {
+        return Err(LineFault::BadRecord);
     };
-    let Some(word) = number(word) else {
-        return Ok(Err(LineFault::BadRecord));
+    let Some(word) = number(word.as_slice()) else {
+        return Err(LineFault::BadRecord);
     };
-    let Some(api) = text_of(alloc, api)? else {
-        return Ok(Err(LineFault::BadRecord));
+    let Some(api) = text_in(api) else {
+        return Err(LineFault::BadRecord);
     };
-    let Some(stage) = text_of(alloc, stage)? else {
-        return Ok(Err(LineFault::BadRecord));
+    let Some(stage) = text_in(stage) else {
+        return Err(LineFault::BadRecord);
     };
-    let Some(body) = text_of(alloc, body)? else {
-        return Ok(Err(LineFault::BadRecord));
+    let Some(body) = text_in(body) else {
+        return Err(LineFault::BadRecord);
     };
     if !(is_name(api.as_str()) && is_name(stage.as_str())) {
-        return Ok(Err(LineFault::BadRecord));
+        return Err(LineFault::BadRecord);
     }
-    Ok(Ok(Record::Post {
+    Ok(Record::Post {
         moment,
         word,
         api,
         stage,
         body,
-    }))
-}
-
-fn copied(alloc: Global, fields: &[Bytes]) -> Result<Vec<Bytes>, Memory>
-    ensures { IfOk result (λ made. made.items ≡ fields.now) }
-{
-    let mut made = Vec::new(alloc);
-    for field in fields {
-        made.push(field.copy(alloc)?)?;
-    }
-    Ok(made)
+    })
 }
 
 #[tactic(auto, unfolding(crate::specs::Records::call_record))]
-fn call_record(
-    alloc: Global,
-    moment: &[u8],
-    word: &[u8],
-    bytes: &Bytes,
-    outcomes: &[Bytes],
-) -> Result<Reading, Memory>
-    ensures { IfOk result (λ r. r ≡ call_record_of moment.now word.now bytes.now outcomes.now) }
+fn call_record(moment: Bytes, word: Bytes, bytes: Bytes, outcomes: Vec<Bytes>) -> Reading
+    ensures { result ≡ call_record_of moment word bytes outcomes.items }
 {
-    let Some(moment) = number(moment) else {
-        return Ok(Err(LineFault::BadRecord));
+    let Some(moment) = number(moment.as_slice()) else {
+        return Err(LineFault::BadRecord);
     };
-    let Some(word) = number(word) else {
-        return Ok(Err(LineFault::BadRecord));
+    let Some(word) = number(word.as_slice()) else {
+        return Err(LineFault::BadRecord);
     };
-    Ok(Ok(Record::Call {
+    Ok(Record::Call {
         moment,
         word,
-        bytes: bytes.copy(alloc)?,
-        outcomes: Seq::of(copied(alloc, outcomes)?),
-    }))
+        bytes,
+        outcomes: Seq::of(outcomes),
+    })
 }
 
-fn call_fields(alloc: Global, fields: &[Bytes]) -> Result<Reading, Memory>
-    ensures { IfOk result (λ r. r ≡ call_fields_of fields.now) }
+// Each of these is given all fields of a line, the first of which is the record's name.
+
+fn text_fields(mut fields: Vec<Bytes>) -> Reading
+    ensures { result ≡ text_fields_of (drop 1 fields.items) }
 {
-    match fields {
-        [m, w, bytes, outcomes @ ..] => {
-            call_record(alloc, m.as_slice(), w.as_slice(), bytes, outcomes)
-        }
-        _ => Ok(Err(LineFault::BadRecord)),
-    }
+    let [_, _, _, _] = fields.as_slice() else {
+        return Err(LineFault::BadRecord);
+    };
+    let template = fields.remove(3);
+    let api = fields.remove(2);
+    let moment = fields.remove(1);
+    text_record(moment, api, template)
 }
 
-fn text_fields(alloc: Global, fields: &[Bytes]) -> Result<Reading, Memory>
-    ensures { IfOk result (λ r. r ≡ text_fields_of fields.now) }
+fn api_fields(mut fields: Vec<Bytes>) -> Reading
+    ensures { result ≡ api_fields_of (drop 1 fields.items) }
 {
-    match fields {
-        [m, a, t] => text_record(alloc, m.as_slice(), a.as_slice(), t.as_slice()),
-        _ => Ok(Err(LineFault::BadRecord)),
-    }
+    let [_, _, _, _] = fields.as_slice() else {
+        return Err(LineFault::BadRecord);
+    };
+    let document = fields.remove(3);
+    let api = fields.remove(2);
+    let moment = fields.remove(1);
+    api_record(moment, api, document)
 }
 
-fn api_fields(alloc: Global, fields: &[Bytes]) -> Result<Reading, Memory>
-    ensures { IfOk result (λ r. r ≡ api_fields_of fields.now) }
+fn post_fields(mut fields: Vec<Bytes>) -> Reading
+    ensures { result ≡ post_fields_of (drop 1 fields.items) }
 {
-    match fields {
-        [m, a, d] => api_record(alloc, m.as_slice(), a.as_slice(), d.as_slice()),
-        _ => Ok(Err(LineFault::BadRecord)),
-    }
+    let [_, _, _, _, _, _] = fields.as_slice() else {
+        return Err(LineFault::BadRecord);
+    };
+    let body = fields.remove(5);
+    let stage = fields.remove(4);
+    let api = fields.remove(3);
+    let word = fields.remove(2);
+    let moment = fields.remove(1);
+    post_record(moment, word, api, stage, body)
 }
 
-fn post_fields(alloc: Global, fields: &[Bytes]) -> Result<Reading, Memory>
-    ensures { IfOk result (λ r. r ≡ post_fields_of fields.now) }
+fn call_fields(mut fields: Vec<Bytes>) -> Result<Reading, Memory>
+    ensures { IfOk result (λ r. r ≡ call_fields_of (drop 1 fields.items)) }
 {
-    match fields {
-        [m, w, a, s, b] => post_record(
-            alloc,
-            m.as_slice(),
-            w.as_slice(),
-            a.as_slice(),
-            s.as_slice(),
-            b.as_slice(),
-        ),
-        _ => Ok(Err(LineFault::BadRecord)),
-    }
+    let [_, _, _, _, ..] = fields.as_slice() else {
+        return Ok(Err(LineFault::BadRecord));
+    };
+    let outcomes = fields.split_off(4)?;
+    let bytes = fields.remove(3);
+    let word = fields.remove(2);
+    let moment = fields.remove(1);
+    Ok(call_record(moment, word, bytes, outcomes))
 }
 
 #[tactic(auto, unfolding(crate::specs::Records::record_of))]
-fn record_of(alloc: Global, fields: &[Bytes]) -> Result<Reading, Memory>
-    ensures { IfOk result (λ r. r ≡ record_of_fields fields.now) }
+fn record_of(alloc: Global, fields: Vec<Bytes>) -> Result<Reading, Memory>
+    ensures { IfOk result (λ r. r ≡ record_of_fields fields.items) }
 {
-    let [name, rest @ ..] = fields else {
+    let [name, rest @ ..] = fields.as_slice() else {
         return Ok(Err(LineFault::BadRecord));
     };
     let name = name.as_slice();
     if name == b"text".as_slice() {
-        return text_fields(alloc, rest);
+        return Ok(text_fields(fields));
     }
     if name == b"api".as_slice() {
-        return api_fields(alloc, rest);
+        return Ok(api_fields(fields));
     }
     if name == b"post".as_slice() {
-        return post_fields(alloc, rest);
+        return Ok(post_fields(fields));
     }
     if name == b"call".as_slice() {
-        return call_fields(alloc, rest);
+        return call_fields(fields);
     }
     record_of_stages(alloc, name, rest)
 }
@@ -193,7 +189,7 @@ pub fn record_in(alloc: Global, line: &[u8]) -> Result<Reading, Memory>
     ensures { IfOk result (λ r. r ≡ record_in_line line.now) }
 {
     match fields_in(alloc, line)? {
-        Some(fields) => record_of(alloc, &fields),
+        Some(fields) => record_of(alloc, fields),
         None => Ok(Err(LineFault::BadRecord)),
     }
 }

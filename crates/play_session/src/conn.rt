@@ -1,11 +1,14 @@
 // A connection in memory.
-ghost use Rattle.std.specs.Prelude.{◌≡◌, []};
+ghost use Rattle.std.specs.Prelude.{◌≡◌, [], IfOk};
 
 use crate::slice_source::SliceSource;
 use gate_ports::Conn;
-use gw_base::{Bytes, Failed, Sink, Source, WriteStop};
+use gw_base::{Bytes, Failed, Memory, Sink, Source, WriteStop};
 use std::alloc::Global;
 use std::marker::Model;
+
+// The room that what is written begins with, enough for most answers; it grows where it is not.
+const ROOM: usize = 512;
 
 /// Bytes that are read from their front on, and those that were written. No read and no write fails, so its counts are 0; a
 /// write may want memory.
@@ -25,13 +28,13 @@ impl<'a> Model for ScriptConn<'a> {
 
 impl<'a> ScriptConn<'a> {
     /// A connection on which these bytes come in, and nothing was written.
-    pub(crate) fn new(alloc: Global, bytes: &'a [u8]) -> Self
-        ensures { result ≡ record { left = bytes.now; written = [] } }
+    pub(crate) fn new(alloc: Global, bytes: &'a [u8]) -> Result<Self, Memory>
+        ensures { IfOk result (λ conn. conn ≡ record { left = bytes.now; written = [] }) }
     {
-        ScriptConn {
+        Ok(ScriptConn {
             source: SliceSource::new(bytes),
-            written: Vec::new(alloc),
-        }
+            written: Vec::with_capacity(alloc, ROOM)?,
+        })
     }
 
     /// What was written.

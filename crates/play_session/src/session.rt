@@ -162,10 +162,10 @@ impl<'r, R: Wait> Session<'r, R> {
             (record { history = self.new.history; sent = t.sent.items; written = t.written; ended = t.ended })) }
         ensures base { self.new.base ≡ self.old.base }
     {
+        let mut conn = ScriptConn::new(alloc, bytes)?;
         let Some(seat) = self.seat.take() else {
             unreachable!()
         };
-        let mut conn = ScriptConn::new(alloc, bytes);
         let mut means = Means {
             backend: MemBackend::new(alloc, outcomes),
             clock: FixedClock {

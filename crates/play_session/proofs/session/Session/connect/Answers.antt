@@ -32,16 +32,16 @@ returns-clause-talks g c =
     let moment = c.args.reading.moment in
     let word = c.args.reading.word in
     let after = c.serve_connection-seat.new.conn in
-    let first = c.new.result in
+    let first = c.new-2.result in
     let last = c.serve_connection-seat.new.means.backend in
     let script = map outcome_of c.args.outcomes.items in
     let came : Came = record { history = l.seen; sent = last.sent; written = after.written; ended = c.serve_connection-seat.result.1 } in
-    let here : ComesTo s.started.value.base 0 moment word k.seen c.new-conn.result.left script came =
-    comes_to s.desk s.started.value.base k l at.0 at.1 moment word script c.new-conn.result after first last c.serve_connection-seat.result.1 w.0 w.1 w.2 w.3 (ap (λ (f : ConnFacts). f.written) c.new-conn.ensures)
-    (ap (λ (f : BackendFacts). f.sent) c.new.ensures) (ap (λ (f : BackendFacts). f.to_come) c.new.ensures) c.in_ok-ended.ensures.1 in
+    let here : ComesTo s.started.value.base 0 moment word k.seen c.in_ok-conn.conn.left script came =
+    comes_to s.desk s.started.value.base k l at.0 at.1 moment word script c.in_ok-conn.conn after first last c.serve_connection-seat.result.1 w.0 w.1 w.2 w.3 (ap (λ (f : ConnFacts). f.written) c.in_ok-conn.ensures)
+    (ap (λ (f : BackendFacts). f.sent) c.new-2.ensures) (ap (λ (f : BackendFacts). f.to_come) c.new-2.ensures) c.in_ok-ended.ensures.1 in
     let over : ComesTo s.started.value.base 0 moment word (seen_by s.seat) c.args.bytes.now script came =
     subst (λ h. ComesTo s.started.value.base 0 moment word h c.args.bytes.now script came) (ap seen_by (sym there))
-    (subst (λ b. ComesTo s.started.value.base 0 moment word k.seen b script came) (ap (λ (f : ConnFacts). f.left) c.new-conn.ensures) here) in
+    (subst (λ b. ComesTo s.started.value.base 0 moment word k.seen b script came) (ap (λ (f : ConnFacts). f.left) c.in_ok-conn.ensures) here) in
     let told : ComesTo c.args.self.now.base 0 moment word c.args.self.now.history c.args.bytes.now script came =
     subst (λ (v : SessionFacts). ComesTo v.base 0 moment word v.history c.args.bytes.now script came) c.self.view_is over in
     let requests : ComesTo c.args.self.now.base 0 moment word c.args.self.now.history c.args.bytes.now script (record { history = l.seen; sent = c.into_sent.result.items; written = after.written; ended = c.serve_connection-seat.result.1 }) =

@@ -14,7 +14,7 @@ use crate::turns::{End, Said};
 use backend_core::{Scripted, WireRequest};
 use gw_base::{Memory, Text};
 use play_session::{Ended, Reading, Session, SessionFull};
-use record_fields::encode;
+use record_fields::append_coded;
 use std::alloc::Global;
 use std::sync::Wait;
 
@@ -57,33 +57,32 @@ pub fn post_bytes(alloc: Global, api: &str, stage: &str, body: &str) -> Result<T
 }
 
 // Appends a line of some bytes, behind a word.
-fn append_bytes(alloc: Global, text: &mut String, word: &str, bytes: &[u8]) -> Result<(), Memory>
+fn append_bytes(text: &mut String, word: &str, bytes: &[u8]) -> Result<(), Memory>
     ensures { OnOk result (string_bytes text.new ≡ string_bytes text.old ++ concat (word.now ∷ coded bytes.now ∷ line_feed ∷ [])) }
 {
-    let bytes = encode(alloc, bytes)?;
     text.push_str(word)?;
-    text.push_str(bytes.as_str())?;
+    append_coded(text, bytes)?;
     text.push_str("\n")?;
     Ok(())
 }
 
 // Appends the lines of the requests that were sent to backends.
-fn append_sent(alloc: Global, text: &mut String, requests: &[WireRequest]) -> Result<(), Memory>
+fn append_sent(text: &mut String, requests: &[WireRequest]) -> Result<(), Memory>
     ensures { OnOk result (string_bytes text.new ≡ string_bytes text.old ++ sent_lines_of requests.now) }
 {
     for request in requests {
-        append_bytes(alloc, text, "sent ", request.bytes.as_slice())?;
+        append_bytes(text, "sent ", request.bytes.as_slice())?;
     }
     Ok(())
 }
 
 // Appends the line of all bytes that were written, where there are any.
-fn append_answer(alloc: Global, text: &mut String, written: &[u8]) -> Result<(), Memory>
+fn append_answer(text: &mut String, written: &[u8]) -> Result<(), Memory>
     ensures { OnOk result (string_bytes text.new ≡ string_bytes text.old ++ answer_line_of written.now) }
 {
     match written {
         [] => Ok(()),
-        [_, ..] => append_bytes(alloc, text, "answer ", written),
+        [_, ..] => append_bytes(text, "answer ", written),
     }
 }
 
@@ -119,8 +118,8 @@ fn connection_lines(
     ensures { IfOk result (λ lines. lines ≡ connection_lines_of requests.now written.now ended) }
 {
     let mut text = String::with_capacity(alloc, ROOM)?;
-    append_sent(alloc, &mut text, requests)?;
-    append_answer(alloc, &mut text, written)?;
+    append_sent(&mut text, requests)?;
+    append_answer(&mut text, written)?;
     append_end(&mut text, ended)?;
     append_full(alloc, &mut text, ended)?;
     Ok(Text::of(text))

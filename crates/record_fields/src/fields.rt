@@ -55,7 +55,7 @@ fn decode(alloc: Global, field: &[u8]) -> Result<Option<Bytes>, AllocError>
     if field.is_empty() || !are_graphic(field) || !are_escapes(field) {
         return Ok(None);
     }
-    let mut bytes = Vec::new(alloc);
+    let mut bytes = Vec::with_capacity(alloc, field.len())?;
     percent_decode(field).append_to(&mut bytes)?;
     Ok(Some(Bytes::of(bytes)))
 }
@@ -69,7 +69,7 @@ fn parts_in<'a>(alloc: Global, line: &'a [u8]) -> Result<Vec<&'a [u8]>, AllocErr
 fn all_of(alloc: Global, parts: &[&[u8]]) -> Result<Option<Vec<Bytes>>, AllocError>
     ensures { IfOk result (λ fields. option_map (λ v. v.items) fields ≡ all_decoded (map (λ (part : Bor (List ℕ)). part.now) parts.now)) }
 {
-    let mut fields = Vec::new(alloc);
+    let mut fields = Vec::with_capacity(alloc, parts.len())?;
     for part in parts {
         let Some(field) = decode(alloc, part)? else {
             return Ok(None);

@@ -37,4 +37,4 @@ pub use columns::{read_column, write_column};
 pub use fields::{fields_in, text_of};
 pub use numbers::{number, small_number};
 pub use pairs::pairs_in;
-pub use writing::{encode, encode_field};
+pub use writing::{append_coded, encode, encode_field};

@@ -10,21 +10,23 @@ ghost use Rattle.vtl_eval.specs.Frames.{arguments_of, is_sound, seen};
 ghost use Rattle.vtl_eval.specs.Meaning.{value, started, values_of, pairs_of, piece, pieces, stepped, walked, operated};
 ghost use Rattle.vtl_eval.specs.Views.{Gives, Does, scene_of, reached_of};
 ghost use Rattle.vtl_eval.specs.Evaluated.{referred, chain, linked, charge};
+ghost use Rattle.vtl_eval.specs.References.{at_value};
 
 use crate::frame::{Frame, argument};
 use crate::operators::{compute, settled_by};
 use crate::pieces::{Pieces, text_value};
 use crate::reached::Reached;
 use crate::references::{
-    after_call, after_index, after_name, begin_reference, end_reference, settle, shown_value,
+    after_call, after_index, after_name, begin_reference, call_value, end_reference, settle,
+    shown_value,
 };
 use crate::roots::Roots;
-use crate::run::{Run, make, spend};
+use crate::run::{Run, literal, make, spend};
 use crate::stop::Fail;
 use gw_base::{Memory, Text};
 use std::alloc::Global;
 use vtl_reader::{Arena, ExprNode, Link, Pair, Part, Step as StepNode};
-use vtl_values::{ListMaker, MapMaker, Value, ranged};
+use vtl_values::{ListMaker, MapMaker, Value, item_at, member, ranged};
 use vtl_words::operators::Operator;
 
 // Charges as many nodes.
@@ -78,7 +80,7 @@ pub fn eval<'a, R: Roots>(
         ExprNode::Text(text) => {
             spend(budget, run)?;
             make(run, text.len() as u64)?;
-            Ok(text_value(alloc, text.as_str())?)
+            Ok(literal(alloc, run, k, text.as_str())?)
         }
         ExprNode::Joined(parts) => {
             spend(budget, run)?;
@@ -368,9 +370,82 @@ pub fn refer<'a, R: Roots>(
     requires steps { StepsBelow below steps.now }
     ensures { Gives (λ v. v) result (scene_of run.new) (R.kept roots.now) (referred budget (R.meanings roots.now) (base_with (arguments_of arena.now.exprs frame.now) (named name.now)) (steps_with (arguments_of arena.now.exprs frame.now) (steps_made (expr_of arena.now.exprs) steps.now)) (scene_of run.old, R.kept roots.now)) }
 {
-    let begun = begin_in(alloc, roots, arena, frame, budget, run, name)?;
+    let begun = match begin_in(alloc, roots, arena, frame, budget, run, name)? {
+        Reached::Value(value) => {
+            return walk_value(alloc, roots, arena, frame, budget, run, value, steps, below);
+        }
+        begun => begun,
+    };
     let reached = walk(alloc, roots, arena, frame, budget, run, begun, steps, below)?;
     end_reference(alloc, roots, run, reached)
+}
+
+// The steps of a reference from a value on: each gives a value.
+#[cycle(eval)]
+fn walk_value<'a, R: Roots>(
+    alloc: Global,
+    roots: &R,
+    arena: &Arena,
+    frame: &'a Frame<'a>,
+    budget: u64,
+    run: &mut Run,
+    first: Value,
+    steps: &[StepNode],
+    below: usize,
+) -> Result<Value, Fail>
+    requires frame { IsTrue (is_sound (length arena.now.exprs) frame.now) }
+    requires stands { below ≤ length arena.now.exprs }
+    requires steps { StepsBelow below steps.now }
+    ensures { Gives at_value result (scene_of run.new) (R.kept roots.now) (walked budget (R.meanings roots.now) (steps_with (arguments_of arena.now.exprs frame.now) (steps_made (expr_of arena.now.exprs) steps.now)) (at_value first) (scene_of run.old, R.kept roots.now)) }
+{
+    let mut value = first;
+    for step in steps {
+        value = step_value(alloc, roots, arena, frame, budget, run, value, step, below)?;
+    }
+    Ok(value)
+}
+
+// A step of a reference behind a value. The arguments of most methods are few, and stand in no vector.
+#[cycle(eval)]
+fn step_value<'a, R: Roots>(
+    alloc: Global,
+    roots: &R,
+    arena: &Arena,
+    frame: &'a Frame<'a>,
+    budget: u64,
+    run: &mut Run,
+    value: Value,
+    step: &StepNode,
+    below: usize,
+) -> Result<Value, Fail>
+    requires frame { IsTrue (is_sound (length arena.now.exprs) frame.now) }
+    requires stands { below ≤ length arena.now.exprs }
+    requires step { StepBelow below step.now }
+    ensures { Gives at_value result (scene_of run.new) (R.kept roots.now) (stepped budget (R.meanings roots.now) (step_with (arguments_of arena.now.exprs frame.now) (step_made (expr_of arena.now.exprs) step.now)) (at_value value) (scene_of run.old, R.kept roots.now)) }
+{
+    match step {
+        StepNode::Member(name) => Ok(member(&value, name.as_str())?),
+        StepNode::Index(k) => {
+            let index = eval(alloc, roots, arena, frame, budget, run, *k)?;
+            Ok(item_at(&index, &value)?)
+        }
+        StepNode::Call(name, ids) => match ids.as_slice() {
+            [] => call_value(alloc, roots, run, &value, name.as_str(), &[]),
+            [j] => {
+                let argument = eval(alloc, roots, arena, frame, budget, run, *j)?;
+                call_value(alloc, roots, run, &value, name.as_str(), &[argument])
+            }
+            [i, j] => {
+                let first = eval(alloc, roots, arena, frame, budget, run, *i)?;
+                let second = eval(alloc, roots, arena, frame, budget, run, *j)?;
+                call_value(alloc, roots, run, &value, name.as_str(), &[first, second])
+            }
+            ids => {
+                let values = eval_all(alloc, roots, arena, frame, budget, run, ids, below)?;
+                call_value(alloc, roots, run, &value, name.as_str(), &values)
+            }
+        },
+    }
 }
 
 // The steps of a reference, in order.

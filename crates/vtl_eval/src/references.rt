@@ -4,7 +4,7 @@ ghost use Rattle.vtl_values.specs.Val.{string_bytes as bytes_in};
 ghost use Rattle.vtl_methods.specs.Methods.{method_of, method_texts};
 ghost use Rattle.vtl_values.specs.Printed.{printed};
 ghost use Rattle.vtl_eval.specs.World.{make as make_of};
-ghost use Rattle.vtl_eval.specs.References.{begun, asked, at_path, settled, after_name as after_name_of, after_index as after_index_of, after_call as after_call_of, ended as ended_of, turn_value as turn_value_of};
+ghost use Rattle.vtl_eval.specs.References.{at_value, begun, asked, at_path, settled, after_name as after_name_of, after_index as after_index_of, after_call as after_call_of, ended as ended_of, turn_value as turn_value_of};
 ghost use Rattle.vtl_eval.specs.Meaning.{shown};
 ghost use Rattle.vtl_eval.specs.Roots.{name as name_step};
 ghost use Rattle.vtl_eval.specs.Views.{Gives, Does, scene_of, names_of, reached_of, stepped_of};
@@ -182,6 +182,20 @@ fn call_method(
     }
 }
 
+/// `.name(arguments)` of a value. The roots are not asked; the contract names what is kept in them.
+pub fn call_value<R: Roots>(
+    alloc: Global,
+    _roots: &R,
+    run: &mut Run,
+    value: &Value,
+    name: &str,
+    arguments: &[Value],
+) -> Result<Value, Fail>
+    ensures { Gives at_value result (scene_of run.new) (R.kept _roots.now) (after_call_of (R.meanings _roots.now) name.now (at_value value.now) arguments.now (scene_of run.old, R.kept _roots.now)) }
+{
+    call_method(alloc, run, value, name, arguments)
+}
+
 /// `.name(arguments)`.
 pub fn after_call<R: Roots>(
     alloc: Global,
@@ -195,7 +209,7 @@ pub fn after_call<R: Roots>(
 {
     match reached {
         Reached::Value(value) => {
-            let value = call_method(alloc, run, &value, name, &arguments)?;
+            let value = call_value(alloc, roots, run, &value, name, &arguments)?;
             Ok(Reached::Value(value))
         }
         Reached::Root(root) => {

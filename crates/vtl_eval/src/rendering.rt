@@ -87,6 +87,7 @@ fn finish(run: Run) -> Rendered
         turn: _,
         nodes,
         made: _,
+        literals: _,
     } = run;
     Rendered {
         text: Text::of(text),

@@ -1,6 +1,7 @@
 // The text that grows, the variables, and what a render has cost.
-ghost use Rattle.std.specs.Prelude.{◌≡◌, ◌+◌, ◌-◌, ◌≤◌, ◌<◌, length, drop, IfOk, OnOk, Ok};
-ghost use Rattle.vtl_values.specs.Val.{string_bytes as bytes_in};
+ghost use Rattle.std.specs.Prelude.{◌≡◌, ◌+◌, ◌-◌, ◌≤◌, ◌<◌, length, drop, IfOk, IfSome, OnOk, Ok};
+ghost use Rattle.std.specs.Rc.{rc_str_bytes};
+ghost use Rattle.vtl_values.specs.Val.{string_bytes as bytes_in, text as text_val};
 ghost use Rattle.vtl_values.specs.Printed.{printed};
 ghost use Rattle.vtl_eval.specs.Meaning.{shown, turned};
 ghost use Rattle.vtl_eval.specs.World.{begin, most_made, spend as spend_of, make as make_of, write as write_of, put, named};
@@ -9,6 +10,7 @@ ghost use Rattle.vtl_eval.specs.Views.{scene_of, names_of, place_of, Does};
 use crate::stop::{Fail, Limit};
 use gw_base::{Memory, Text};
 use std::alloc::Global;
+use std::rc::RcStr;
 use vtl_values::{Lack, Value, print};
 
 /// The most bytes of a text.
@@ -17,6 +19,9 @@ const MOST_OUTPUT: u64 = 10_485_760;
 /// The most bytes of all texts made.
 const MOST_MADE: u64 = 67_108_864;
 
+/// The literals of so many expressions, the first of a template, are kept.
+const MOST_LITERALS: usize = 4096;
+
 /// A turn of a loop: how many went before it, and how many there are in all.
 #[derive(Clone, Copy, Debug, PartialEq, Eq)]
 pub struct Turn {
@@ -24,8 +29,8 @@ pub struct Turn {
     pub all: u32,
 }
 
-/// The text so far, the variables, the innermost loop's turn, the nodes that were evaluated, and the bytes of all texts
-/// made.
+/// The text so far, the variables, the innermost loop's turn, the nodes that were evaluated, the bytes of all texts made,
+/// and the literal texts that were met, by the numbers of their expressions.
 #[derive(Drop)]
 pub struct Run {
     pub text: String,
@@ -33,6 +38,7 @@ pub struct Run {
     pub turn: Option<Turn>,
     pub nodes: u64,
     pub made: u64,
+    pub literals: Vec<Option<RcStr>>,
 }
 
 /// Nothing was evaluated.
@@ -45,6 +51,7 @@ pub fn begin_run(alloc: Global) -> Run
         turn: None,
         nodes: 0,
         made: 0,
+        literals: Vec::new(alloc),
     }
 }
 
@@ -160,4 +167,41 @@ pub fn set_name(alloc: Global, run: &mut Run, name: &str, value: Value) -> Resul
         run.names.push((name, value))?;
     }
     Ok(())
+}
+
+// Keeps the text of the expression with this number, where its number is among the first.
+fn keep_literal(run: &mut Run, k: usize, text: &RcStr) -> Result<(), Memory>
+    ensures { scene_of run.new ≡ scene_of run.old }
+{
+    if k >= MOST_LITERALS {
+        return Ok(());
+    }
+    while run.literals.len() <= k {
+        run.literals.push(None)?;
+    }
+    run.literals[k] = Some(text.clone()?);
+    Ok(())
+}
+
+// The text that is kept of the expression with this number, where it is this one.
+fn kept_literal(run: &Run, k: usize, text: &str) -> Result<Option<RcStr>, Memory>
+    ensures { IfOk result (λ kept. IfSome kept (λ t. rc_str_bytes t ≡ text.now)) }
+{
+    match run.literals.get(k) {
+        Some(Some(kept)) if kept.as_str() == text => Ok(Some(kept.clone()?)),
+        _ => Ok(None),
+    }
+}
+
+/// The value of a literal, by the number of its expression: a template that comes to it again shares its text.
+pub fn literal(alloc: Global, run: &mut Run, k: usize, text: &str) -> Result<Value, Memory>
+    ensures value { IfOk result (λ v. v ≡ text_val text.now) }
+    ensures scene { scene_of run.new ≡ scene_of run.old }
+{
+    if let Some(kept) = kept_literal(run, k, text)? {
+        return Ok(Value::text(kept));
+    }
+    let made = RcStr::from_str(alloc, text)?;
+    keep_literal(run, k, &made)?;
+    Ok(Value::text(made))
 }

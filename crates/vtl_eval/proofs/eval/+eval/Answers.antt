@@ -1,11 +1,12 @@
 use Rattle.std.proofs.Common.{◌≡◌, ◌∙◌, ap, sym, Ok, ℕ, List}
 use Rattle.vtl_grammar.specs.Tree.{named}
-use Rattle.vtl_grammar.specs.Expanded.{expr_with, base_with, steps_with, part_with}
+use Rattle.vtl_grammar.specs.Expanded.{expr_with, base_with, steps_with, step_with, part_with}
 use Rattle.vtl_values.specs.Val.{Val}
-use Rattle.vtl_reader.specs.Nodes.{expr_of, made, part_made, steps_made}
+use Rattle.vtl_reader.specs.Nodes.{expr_of, made, part_made, step_made, steps_made}
 use Rattle.vtl_eval.specs.World.{State, Outcome, ◌>>=◌}
 use Rattle.vtl_eval.specs.Frames.{arguments_of, seen}
-use Rattle.vtl_eval.specs.Meaning.{value, piece, shown}
+use Rattle.vtl_eval.specs.Meaning.{value, piece, shown, stepped}
+use Rattle.vtl_eval.specs.References.{at_value, after_call}
 use Rattle.vtl_eval.specs.Evaluated.{referred, chain}
 use Rattle.vtl_eval.specs.Views.{scene_of}
 use Rattle.vtl_eval.proofs.Chains.{chain_seen}
@@ -62,3 +63,15 @@ eval_piece-returns-in_ok-shown_value-in-Printed g t c =
     e
     ∙ ap (λ z. z >>= last) (rw (c.as_str-in-Printed.ensures, c.deref.ensures.value) at c.in-Ok.ensures)
     ∙ ap (λ z. Ok (z, st)) (sym (rw c.as_str-in-Printed-2.ensures at c.in_ok-shown_value-in-Printed.ensures))
+
+pub step_value-returns : goal.step_value-returns
+step_value-returns g t c =
+    let ns = c.args.arena.now.exprs in
+    let a = arguments_of ns c.args.frame.now in
+    let m = g.R.Roots.meanings c.args.roots.now in
+    let kept = g.R.Roots.kept c.args.roots.now in
+    let s : State = (scene_of c.args.run.now, kept) in
+    let e : stepped c.args.budget m (step_with a (step_made (expr_of ns) c.args.step.now)) (at_value c.args.value) s ≡ after_call m c.in-Call.name (at_value c.args.value) c.in_ok-values-in_default.values.items (scene_of c.eval_all.new.run, kept) =
+    ap (λ z. stepped c.args.budget m (step_with a (step_made (expr_of ns) z)) (at_value c.args.value) s) c.in-Call.is
+    ∙ ap (λ o. o >>= λ vs. after_call m c.in-Call.name (at_value c.args.value) vs.0 vs.1) (rw c.as_slice.ensures.value at c.in_ok-values-in_default.ensures) in
+    rw e (rw (c.as_str-in_default.ensures, c.deref.ensures.value) at c.call_value-in_default.ensures)

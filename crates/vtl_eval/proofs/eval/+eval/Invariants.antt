@@ -3,6 +3,7 @@ use Rattle.vtl_grammar.specs.Expanded.{exprs_with, pairs_with, parts_with, steps
 use Rattle.vtl_reader.specs.Nodes.{expr_of, exprs_made, pairs_made, parts_made, steps_made, AllBelow, PairsBelow, PartsBelow, LinksBelow, StepsBelow}
 use Rattle.vtl_eval.specs.Meaning.{values_of, pairs_of, pieces, walked}
 use Rattle.vtl_eval.specs.Evaluated.{linked}
+use Rattle.vtl_eval.specs.References.{at_value}
 use Rattle.vtl_eval.specs.Frames.{arguments_of, seen}
 use Rattle.vtl_eval.specs.declared.frame.Frame.{size-Frame}
 use Rattle.vtl_eval.specs.Views.{scene_of, reached_of}
@@ -17,6 +18,12 @@ decreases-eval_all g l = (12 * length l.arena.now.exprs + 24) * size-Frame l.fra
 
 abbrev pub decreases-eval_pairs : goal.decreases-eval_pairs
 decreases-eval_pairs g l = (12 * length l.arena.now.exprs + 24) * size-Frame l.frame.now + (12 * l.below + 1)
+
+abbrev pub decreases-step_value : goal.decreases-step_value
+decreases-step_value g l = (12 * length l.arena.now.exprs + 24) * size-Frame l.frame.now + (12 * l.below + 2)
+
+abbrev pub decreases-walk_value : goal.decreases-walk_value
+decreases-walk_value g l = (12 * length l.arena.now.exprs + 24) * size-Frame l.frame.now + (12 * l.below + 3)
 
 abbrev pub decreases-take_step : goal.decreases-take_step
 decreases-take_step g l = (12 * length l.arena.now.exprs + 24) * size-Frame l.frame.now + (12 * l.below + 2)
@@ -65,6 +72,12 @@ invariant-eval_links-loop-link g l =
     (linked l.budget (g.R.Roots.meanings l.roots) (seen l.arena.exprs l.frame) (drop l.link-index l.links) l.v (scene_of l.run, g.R.Roots.kept l.roots)
     ≡ linked l.budget (g.R.Roots.meanings l.roots) (seen l.arena.exprs l.frame) l.links l.fn.first (scene_of l.fn.run, g.R.Roots.kept l.roots))
     × LinksBelow l.below (drop l.link-index l.links)
+
+abbrev pub invariant-walk_value-loop-step : goal.invariant-walk_value-loop-step
+invariant-walk_value-loop-step g l =
+    (walked l.budget (g.R.Roots.meanings l.roots) (steps_with (arguments_of l.arena.exprs l.frame) (steps_made (expr_of l.arena.exprs) (drop l.step-index l.steps))) (at_value l.value) (scene_of l.run, g.R.Roots.kept l.roots)
+    ≡ walked l.budget (g.R.Roots.meanings l.roots) (steps_with (arguments_of l.arena.exprs l.frame) (steps_made (expr_of l.arena.exprs) l.steps)) (at_value l.fn.first) (scene_of l.fn.run, g.R.Roots.kept l.roots))
+    × StepsBelow l.below (drop l.step-index l.steps)
 
 abbrev pub invariant-walk-loop-step : goal.invariant-walk-loop-step
 invariant-walk-loop-step g l =

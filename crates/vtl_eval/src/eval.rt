@@ -8,8 +8,8 @@ ghost use Rattle.vtl_words.specs.Views.{op_of};
 ghost use Rattle.vtl_reader.specs.Nodes.{expr_of, exprs_made, step_made, steps_made, part_made, parts_made, pairs_made, AllBelow, StepBelow, StepsBelow, PartBelow, PartsBelow, PairsBelow, LinksBelow};
 ghost use Rattle.vtl_eval.specs.Frames.{arguments_of, is_sound, seen};
 ghost use Rattle.vtl_eval.specs.Meaning.{value, started, values_of, pairs_of, piece, pieces, stepped, walked, operated};
-ghost use Rattle.vtl_eval.specs.Views.{Gives, Does, scene_of, reached_of};
-ghost use Rattle.vtl_eval.specs.Evaluated.{referred, chain, linked, charge};
+ghost use Rattle.vtl_eval.specs.Views.{Gives, scene_of, reached_of};
+ghost use Rattle.vtl_eval.specs.Evaluated.{referred, chain, linked};
 ghost use Rattle.vtl_eval.specs.References.{at_value};
 
 use crate::frame::{Frame, argument};
@@ -21,25 +21,13 @@ use crate::references::{
     shown_value,
 };
 use crate::roots::Roots;
-use crate::run::{Run, literal, make, spend};
+use crate::run::{Run, literal, make, spend, spend_all};
 use crate::stop::Fail;
 use gw_base::{Memory, Text};
 use std::alloc::Global;
 use vtl_reader::{Arena, ExprNode, Link, Pair, Part, Step as StepNode};
 use vtl_values::{ListMaker, MapMaker, Value, item_at, member, ranged};
 use vtl_words::operators::Operator;
-
-// Charges as many nodes.
-fn spend_all(budget: u64, run: &mut Run, links: &[Link]) -> Result<(), Fail>
-    ensures { Does result (scene_of run.new) (charge budget links.now (scene_of run.old)) }
-{
-    let mut rest = links;
-    while let [_, more @ ..] = rest {
-        spend(budget, run)?;
-        rest = more;
-    }
-    Ok(())
-}
 
 // The list of values.
 fn listed_value(alloc: Global, values: Vec<Value>) -> Result<Value, Memory>

@@ -5,12 +5,14 @@ ghost use Rattle.vtl_values.specs.Val.{string_bytes as bytes_in, text as text_va
 ghost use Rattle.vtl_values.specs.Printed.{printed};
 ghost use Rattle.vtl_eval.specs.Meaning.{shown, turned};
 ghost use Rattle.vtl_eval.specs.World.{begin, most_made, spend as spend_of, make as make_of, write as write_of, put, named};
+ghost use Rattle.vtl_eval.specs.Evaluated.{charge};
 ghost use Rattle.vtl_eval.specs.Views.{scene_of, names_of, place_of, Does};
 
 use crate::stop::{Fail, Limit};
 use gw_base::{Memory, Text};
 use std::alloc::Global;
 use std::rc::RcStr;
+use vtl_reader::Link;
 use vtl_values::{Lack, Value, print};
 
 /// The most bytes of a text.
@@ -65,6 +67,18 @@ pub fn spend(budget: u64, run: &mut Run) -> Result<(), Fail>
     } else {
         Err(Fail::Met(Limit::Steps))
     }
+}
+
+/// Charges a node for each further operand of a chain, within a budget.
+pub fn spend_all(budget: u64, run: &mut Run, links: &[Link]) -> Result<(), Fail>
+    ensures { Does result (scene_of run.new) (charge budget links.now (scene_of run.old)) }
+{
+    let mut rest = links;
+    while let [_, more @ ..] = rest {
+        spend(budget, run)?;
+        rest = more;
+    }
+    Ok(())
 }
 
 /// How many bytes of texts may still be made.

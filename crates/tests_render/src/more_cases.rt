@@ -159,4 +159,11 @@ pub(crate) const SEVENTH: &[Case] = &[
     ("#if(false)a#elseif(true)b#end", "", "b", 4),
     ("#foreach($i in [1..3])#break#end", "", "", 5),
     ("#stop", "", "", 1),
+    (
+        "#foreach($i in [1..3])#set($s='ab')$s.replace('a','b')$s.replace('b','a')#end",
+        "",
+        "bbaabbaabbaa",
+        28,
+    ),
+    ("#foreach($i in [1..2])#if('a'=='a')x#end#end", "", "xx", 14),
 ];

@@ -1,5 +1,5 @@
 // The record of a line.
-ghost use Rattle.std.specs.Prelude.{◌≡◌, Ok, Err, drop, IfOk, option_map};
+ghost use Rattle.std.specs.Prelude.{◌≡◌, [], ◌∷◌, ◌++◌, length, Ok, Err, drop, IfOk, option_map};
 ghost use Rattle.record_fields.specs.Coding.{text_of};
 ghost use Rattle.play_script.specs.Records.{text_record as text_record_of, api_record as api_record_of, post_record as post_record_of, call_record as call_record_of, call_fields as call_fields_of, text_fields as text_fields_of, api_fields as api_fields_of, post_fields as post_fields_of, record_of as record_of_fields, record_in as record_in_line, numbers_of, keepfails_fields as keepfails_fields_of, keepfails_of as keepfails_of_fields, fails_in as fails_in_line};
 
@@ -143,6 +143,17 @@ fn post_fields(mut fields: Vec<Bytes>) -> Reading
     let body = fields.remove(5);
     let stage = fields.remove(4);
     let api = fields.remove(3);
+    post_behind(fields, api, stage, body)
+}
+
+// A `post` of these texts, behind its name, its moment and its word.
+fn post_behind(mut fields: Vec<Bytes>, api: Bytes, stage: Bytes, body: Bytes) -> Reading
+    requires { length fields.items ≡ 3 }
+    ensures { result ≡ post_fields_of (drop 1 (fields.items ++ api ∷ stage ∷ body ∷ [])) }
+{
+    let [_, _, _] = fields.as_slice() else {
+        unreachable!()
+    };
     let word = fields.remove(2);
     let moment = fields.remove(1);
     post_record(moment, word, api, stage, body)

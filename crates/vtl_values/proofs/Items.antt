@@ -1,8 +1,6 @@
 -- Items of lists and entries of maps, in the program and in its trees.
 use Rattle.std.proofs.Common.{◌≡◌, ℕ, zero, suc, ◌+◌, ◌<◌, ◌≤◌, min, ℤ, ◌+ℤ◌, List, [], ◌∷◌, length, map, take, get_or, Option, Some, None, option_map, refl, sym, ap, ◌∙◌, arith}
-use Rattle.std.specs.Prelude.{slice_get, String}
-use Rattle.std.specs.BTreeMap.{BTreeMap}
-use Rattle.std.proofs.Common.{Vec}
+use Rattle.std.specs.Prelude.{slice_get}
 use Rattle.std.specs.Rc.{rc_str_bytes}
 use Rattle.std.specs.declared.rc.Rc.{Rc}
 use Rattle.std.specs.declared.rc.RcStr.{RcStr}
@@ -12,7 +10,8 @@ use Rattle.std.proofs.lemmas.Option.{slice_get-map, slice_get_past, slice_get_re
 use Rattle.vtl_values.specs.Val as tree
 use Rattle.vtl_values.specs.Val.{Val, vals_of, vals_list, null, boolean, whole, number, text, list, range}
 use Rattle.vtl_values.specs.Vals.{rows_of, val_of}
-use Rattle.vtl_values.specs.declared.value.Size.{Size}
+use Rattle.vtl_values.specs.declared.value.Items.{Items}
+use Rattle.vtl_values.specs.declared.value.Entries.{Entries}
 use Rattle.vtl_values.specs.declared.value.Shape.{Shape}
 use Rattle.vtl_values.specs.declared.value.Shape.TheVariants as shape
 use Rattle.vtl_values.specs.Ranges.{counted, toward, distance, numbered, span}
@@ -135,12 +134,12 @@ pub span_item : (first last : ℤ) (n : ℕ) → n ≤ distance first last → o
 span_item first last n h = ap or_null (span_get first last n h)
 
 -- a loop over anything but a list, a range or a map has no turn
-pub no_turn : (s : Shape) (n : ℕ) → ((r : Rc (Vec Val Global) Global) (z : Size) → s ≡ shape.List r z → ⊥) → ((a b : ℤ) → s ≡ shape.Range a b → ⊥) → ((r : Rc (Vec (RcStr Global × Val) Global) Global) (z : Size) (i : Option (Rc (BTreeMap (String Global) ℕ) Global)) → s ≡ shape.Map r z i → ⊥) → n < length (loop_items (val_of s)) → ⊥
+pub no_turn : (s : Shape) (n : ℕ) → ((r : Rc Items Global) → s ≡ shape.List r → ⊥) → ((a b : ℤ) → s ≡ shape.Range a b → ⊥) → ((r : Rc Entries Global) → s ≡ shape.Map r → ⊥) → n < length (loop_items (val_of s)) → ⊥
 no_turn shape.Null n not_list not_range not_map h = absurd (omega (arith, turn_within null n h))
 no_turn (shape.Bool b) n not_list not_range not_map h = absurd (omega (arith, turn_within (boolean b) n h))
 no_turn (shape.Whole a) n not_list not_range not_map h = absurd (omega (arith, turn_within (whole a) n h))
 no_turn (shape.Number t) n not_list not_range not_map h = absurd (omega (arith, turn_within (number (rc_str_bytes t)) n h))
 no_turn (shape.Str t) n not_list not_range not_map h = absurd (omega (arith, turn_within (text (rc_str_bytes t)) n h))
-no_turn (shape.List r z) n not_list not_range not_map h = not_list r z refl
+no_turn (shape.List r) n not_list not_range not_map h = not_list r refl
 no_turn (shape.Range a b) n not_list not_range not_map h = not_range a b refl
-no_turn (shape.Map r z i) n not_list not_range not_map h = not_map r z i refl
+no_turn (shape.Map r) n not_list not_range not_map h = not_map r refl

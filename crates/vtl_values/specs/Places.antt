@@ -3,7 +3,6 @@ use Rattle.std.specs.Prelude.{◌≡◌, ℕ, suc, List, Option, Some, None, opt
 use Rattle.std.specs.Str.{bytes_eq}
 use Rattle.std.specs.BTreeMap.{BTreeMap, get_by_text}
 use Rattle.std.specs.declared.alloc.Global.{Global}
-use Rattle.std.specs.declared.rc.Rc.{Rc}
 use Rattle.vtl_values.specs.Val.{Entries, no_entries, entry}
 
 -- the place of the first entry of this key
@@ -16,6 +15,6 @@ abbrev pub ArePlaced : Entries → BTreeMap (String Global) ℕ → Type 0
 ArePlaced es places = (k : List ℕ) → get_by_text places k ≡ place_of k es
 
 -- the places that are kept beside entries: none, or that of each key
-abbrev pub IsIndexed : Entries → Option (Rc (BTreeMap (String Global) ℕ) Global) → Type 0
+abbrev pub IsIndexed : Entries → Option (BTreeMap (String Global) ℕ) → Type 0
 IsIndexed es None = Unit {0}
-IsIndexed es (Some places) = ArePlaced es places.value
+IsIndexed es (Some places) = ArePlaced es places

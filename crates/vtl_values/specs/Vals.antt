@@ -20,9 +20,9 @@ val_of (shape.Bool b) = boolean b
 val_of (shape.Whole n) = whole n
 val_of (shape.Number t) = number (rc_str_bytes t)
 val_of (shape.Str s) = text (rc_str_bytes s)
-val_of (shape.List r size) = list (vals_of r.value.items)
+val_of (shape.List r) = list (vals_of r.value.values.items)
 val_of (shape.Range a b) = range a b
-val_of (shape.Map r size places) = tree.map (rows_of r.value.items)
+val_of (shape.Map r) = tree.map (rows_of r.value.rows.items)
 
 -- the depth and the bytes, at most 2^64 - 1, are those of the value
 pub record Sizes (v : Val) (size : Size) : Type 0 where
@@ -36,6 +36,6 @@ IsMeasured (shape.Bool b) = Unit {0}
 IsMeasured (shape.Whole n) = Unit {0}
 IsMeasured (shape.Number t) = Unit {0}
 IsMeasured (shape.Str s) = Unit {0}
-IsMeasured (shape.List r size) = Sizes (list (vals_of r.value.items)) size
+IsMeasured (shape.List r) = Sizes (list (vals_of r.value.values.items)) r.value.size
 IsMeasured (shape.Range a b) = Unit {0}
-IsMeasured (shape.Map r size places) = Sizes (tree.map (rows_of r.value.items)) size × IsIndexed (rows_of r.value.items) places
+IsMeasured (shape.Map r) = Sizes (tree.map (rows_of r.value.rows.items)) r.value.size × IsIndexed (rows_of r.value.rows.items) r.value.places

@@ -11,7 +11,7 @@ ghost use Rattle.vtl_values.specs.Places.{ArePlaced};
 use crate::lack::Lack;
 use crate::places::{Places, keep, note, place_of_key};
 use crate::printing::print;
-use crate::value::{Shape, Size, Value};
+use crate::value::{Entries, Items, Shape, Size, Value};
 use gw_base::Memory;
 use std::alloc::Global;
 use std::collections::BTreeMap;
@@ -69,14 +69,15 @@ impl ListMaker {
 }
 
 #[tactic(auto, unfolding(crate::specs::Making::listed))]
-fn close_list(alloc: Global, items: Vec<Value>) -> Result<Value, Memory>
-    ensures { IfOk result (λ v. v ≡ listed items.items) }
+fn close_list(alloc: Global, values: Vec<Value>) -> Result<Value, Memory>
+    ensures { IfOk result (λ v. v ≡ listed values.items) }
 {
-    let size = measure_items(&items);
+    let size = measure_items(&values);
     if size.depth < 64 {
-        let items = Rc::new(alloc, items)?;
+        let size = deeper(size);
+        let items = Rc::new(alloc, Items { values, size })?;
         Ok(Value {
-            shape: Shape::List(items, deeper(size)),
+            shape: Shape::List(items),
         })
     } else {
         Ok(Value::null())
@@ -227,16 +228,17 @@ fn enter(
     }
 }
 
-fn close_map(alloc: Global, entries: Vec<(RcStr, Value)>, places: Places) -> Result<Value, Memory>
-    requires { ArePlaced (rows_of entries.items) places }
-    ensures { IfOk result (λ v. v ≡ shallow (map (rows_of entries.items))) }
+fn close_map(alloc: Global, rows: Vec<(RcStr, Value)>, places: Places) -> Result<Value, Memory>
+    requires { ArePlaced (rows_of rows.items) places }
+    ensures { IfOk result (λ v. v ≡ shallow (map (rows_of rows.items))) }
 {
-    let size = measure_entries(&entries);
+    let size = measure_entries(&rows);
     if size.depth < 64 {
-        let places = keep(alloc, &entries, places)?;
-        let entries = Rc::new(alloc, entries)?;
+        let size = deeper(size);
+        let places = keep(&rows, places);
+        let entries = Rc::new(alloc, Entries { rows, size, places })?;
         Ok(Value {
-            shape: Shape::Map(entries, deeper(size), places),
+            shape: Shape::Map(entries),
         })
     } else {
         Ok(Value::null())

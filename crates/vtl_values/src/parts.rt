@@ -14,7 +14,7 @@ use crate::places::{Places, place};
 use crate::printing::number_at;
 use crate::value::{Shape, Value};
 use gw_base::Memory;
-use std::rc::{Rc, RcStr};
+use std::rc::RcStr;
 
 /// The most turns of a loop.
 const MOST_TURNS: usize = 1000;
@@ -25,16 +25,12 @@ pub fn member(value: &Value, name: &str) -> Result<Value, Memory>
     ensures { IfOk result (λ v. v ≡ member_of name.now value.now) }
 {
     match &value.shape {
-        Shape::Map(entries, _, places) => find(entries, places, name),
+        Shape::Map(entries) => find(&entries.rows, &entries.places, name),
         _ => Ok(Value::null()),
     }
 }
 
-fn find(
-    entries: &[(RcStr, Value)],
-    places: &Option<Rc<Places>>,
-    name: &str,
-) -> Result<Value, Memory>
+fn find(entries: &[(RcStr, Value)], places: &Option<Places>, name: &str) -> Result<Value, Memory>
     requires { IsIndexed (rows_of entries.now) places.now }
     ensures { IfOk result (λ v. v ≡ found name.now (rows_of entries.now)) }
 {
@@ -49,13 +45,13 @@ pub fn has_key(value: &Value, name: &str) -> bool
     ensures { result ≡ list_any (λ k. bytes_eq k name.now) (map_keys value.now) }
 {
     match &value.shape {
-        Shape::Map(entries, _, places) => is_key(entries, places, name),
+        Shape::Map(entries) => is_key(&entries.rows, &entries.places, name),
         _ => false,
     }
 }
 
 #[tactic(auto, using(crate::proofs::Rows::key_placed))]
-fn is_key(entries: &[(RcStr, Value)], places: &Option<Rc<Places>>, name: &str) -> bool
+fn is_key(entries: &[(RcStr, Value)], places: &Option<Places>, name: &str) -> bool
     requires { IsIndexed (rows_of entries.now) places.now }
     ensures { result ≡ list_any (λ k. bytes_eq k name.now) (entry_keys (rows_of entries.now)) }
 {
@@ -83,7 +79,7 @@ fn item_placed(n: i64, value: &Value) -> Result<Value, Memory>
     }
     let n = n as u64;
     match &value.shape {
-        Shape::List(items, _) => in_list(items, n),
+        Shape::List(items) => in_list(&items.values, n),
         Shape::Range(first, last) => Ok(in_range(*first, *last, n)),
         _ => Ok(Value::null()),
     }
@@ -117,7 +113,7 @@ pub fn loop_length(value: &Value) -> usize
     ensures few { result ≤ 1000 }
 {
     match &value.shape {
-        Shape::List(items, _) => items.len().min(MOST_TURNS),
+        Shape::List(items) => items.values.len().min(MOST_TURNS),
         Shape::Range(first, last) => {
             let behind = first.abs_diff(*last);
             if behind < MOST_TURNS as u64 {
@@ -126,7 +122,7 @@ pub fn loop_length(value: &Value) -> usize
                 MOST_TURNS
             }
         }
-        Shape::Map(entries, _, _) => entries.len().min(MOST_TURNS),
+        Shape::Map(entries) => entries.rows.len().min(MOST_TURNS),
         _ => 0,
     }
 }
@@ -138,9 +134,9 @@ pub fn loop_item(value: &Value, n: usize) -> Result<Value, Memory>
     ensures { IfOk result (λ v. slice_get (loop_items value.now) n ≡ Some v) }
 {
     match &value.shape {
-        Shape::List(items, _) => list_turn(items, n),
+        Shape::List(items) => list_turn(&items.values, n),
         Shape::Range(first, last) => Ok(range_turn(*first, *last, n)),
-        Shape::Map(entries, _, _) => map_turn(entries, n),
+        Shape::Map(entries) => map_turn(&entries.rows, n),
         _ => Ok(Value::null()),
     }
 }
@@ -190,9 +186,9 @@ pub fn size(value: &Value) -> Option<i64>
     ensures { result ≡ size_of value.now }
 {
     match &value.shape {
-        Shape::List(items, _) => to_i64(items.len() as u64),
+        Shape::List(items) => to_i64(items.values.len() as u64),
         Shape::Range(first, last) => range_size(*first, *last),
-        Shape::Map(entries, _, _) => to_i64(entries.len() as u64),
+        Shape::Map(entries) => to_i64(entries.rows.len() as u64),
         _ => None,
     }
 }
@@ -224,7 +220,7 @@ pub fn list_length(value: &Value) -> usize
     ensures { result ≡ length (list_items value.now) }
 {
     match &value.shape {
-        Shape::List(items, _) => items.len(),
+        Shape::List(items) => items.values.len(),
         _ => 0,
     }
 }
@@ -235,7 +231,7 @@ pub fn list_item(value: &Value, n: usize) -> &Value
     ensures { slice_get (list_items value.now) n ≡ Some result.now }
 {
     match &value.shape {
-        Shape::List(items, _) => item_of(items, n),
+        Shape::List(items) => item_of(&items.values, n),
         _ => value,
     }
 }
@@ -255,7 +251,7 @@ pub fn entry_count(value: &Value) -> usize
     ensures values { result ≡ length (map_values value.now) }
 {
     match &value.shape {
-        Shape::Map(entries, _, _) => entries.len(),
+        Shape::Map(entries) => entries.rows.len(),
         _ => 0,
     }
 }
@@ -265,7 +261,7 @@ pub fn entry_key(value: &Value, n: usize) -> Option<&RcStr>
     ensures { option_map (λ k. rc_str_bytes k.now) result ≡ slice_get (map_keys value.now) n }
 {
     match &value.shape {
-        Shape::Map(entries, _, _) => key_at(entries, n),
+        Shape::Map(entries) => key_at(&entries.rows, n),
         _ => None,
     }
 }
@@ -286,7 +282,7 @@ pub fn entry_value(value: &Value, n: usize) -> Option<&Value>
     ensures { option_map (λ v. v.now) result ≡ slice_get (map_values value.now) n }
 {
     match &value.shape {
-        Shape::Map(entries, _, _) => value_at(entries, n),
+        Shape::Map(entries) => value_at(&entries.rows, n),
         _ => None,
     }
 }

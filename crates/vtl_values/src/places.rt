@@ -1,17 +1,16 @@
 // Where the keys of a map stand.
-ghost use Rattle.std.specs.Prelude.{◌≡◌, ℕ, List, IfOk, OnOk, Some, if◌then◌else◌};
+ghost use Rattle.std.specs.Prelude.{◌≡◌, ℕ, List, OnOk, Some, if◌then◌else◌};
 ghost use Rattle.std.specs.BTreeMap.{get_by_text};
 ghost use Rattle.std.specs.Rc.{rc_str_bytes};
 ghost use Rattle.std.specs.Str.{bytes_eq};
 ghost use Rattle.vtl_values.specs.Places.{ArePlaced, IsIndexed, place_of};
-ghost use Rattle.vtl_values.specs.Val.{Entries};
 ghost use Rattle.vtl_values.specs.Vals.{rows_of};
 
 use crate::value::Value;
 use gw_base::Memory;
 use std::alloc::Global;
 use std::collections::BTreeMap;
-use std::rc::{Rc, RcStr};
+use std::rc::RcStr;
 
 /// The most keys that are looked through one by one. More have their places beside them.
 const FEW: usize = 16;
@@ -36,37 +35,19 @@ pub(crate) fn note(alloc: Global, places: &mut Places, key: &str, n: usize) -> R
 }
 
 /// The places that are kept beside these entries: none where they are few.
-pub(crate) fn keep(
-    alloc: Global,
-    entries: &[(RcStr, Value)],
-    places: Places,
-) -> Result<Option<Rc<Places>>, Memory>
+pub(crate) fn keep(entries: &[(RcStr, Value)], places: Places) -> Option<Places>
     requires { ArePlaced (rows_of entries.now) places }
-    ensures { IfOk result (IsIndexed (rows_of entries.now)) }
+    ensures { IsIndexed (rows_of entries.now) result }
 {
     if entries.len() <= FEW {
-        return Ok(None);
-    }
-    let places = Rc::new(alloc, places)?;
-    Ok(Some(places))
-}
-
-/// The same places, held once more.
-pub(crate) fn share(places: &Option<Rc<Places>>) -> Result<Option<Rc<Places>>, Memory>
-    ensures { IfOk result (λ other. (es : Entries) → IsIndexed es places.now → IsIndexed es other) }
-{
-    match places {
-        Some(places) => Ok(Some(places.clone()?)),
-        None => Ok(None),
+        None
+    } else {
+        Some(places)
     }
 }
 
 /// The place of the first entry of a key.
-pub(crate) fn place(
-    entries: &[(RcStr, Value)],
-    places: &Option<Rc<Places>>,
-    key: &str,
-) -> Option<usize>
+pub(crate) fn place(entries: &[(RcStr, Value)], places: &Option<Places>, key: &str) -> Option<usize>
     requires { IsIndexed (rows_of entries.now) places.now }
     ensures { result ≡ place_of key.now (rows_of entries.now) }
 {

@@ -31,9 +31,9 @@ pub fn print(value: &Value, text: &mut String, most: u64) -> Result<(), Lack>
         Shape::Whole(n) => write_whole(text, *n, most),
         Shape::Number(t) => write(text, t.as_str(), most),
         Shape::Str(s) => write(text, s.as_str(), most),
-        Shape::List(items, _) => print_list(items, text, most),
+        Shape::List(items) => print_list(&items.values, text, most),
         Shape::Range(first, last) => print_range(*first, *last, text, most),
-        Shape::Map(entries, _, _) => print_map(entries, text, most),
+        Shape::Map(entries) => print_map(&entries.rows, text, most),
     }
 }
 

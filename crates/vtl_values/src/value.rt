@@ -5,7 +5,7 @@ ghost use Rattle.vtl_values.specs.Val.{Val, null as null_val, boolean as boolean
 ghost use Rattle.vtl_values.specs.Kinds.{whole_in, bool_in, text_in};
 ghost use Rattle.vtl_values.specs.Truth.{is_null as is_null_val, is_true as is_true_val};
 
-use crate::places::{Places, share};
+use crate::places::Places;
 use gw_base::Memory;
 use std::marker::Model;
 use std::rc::{Rc, RcStr};
@@ -31,12 +31,29 @@ pub enum Shape {
     Number(RcStr),
     /// A string.
     Str(RcStr),
-    /// A list, and its size.
-    List(Rc<Vec<Value>>, Size),
+    /// A list.
+    List(Rc<Items>),
     /// The whole numbers from the first to the second, counting down where the first is the greater.
     Range(i64, i64),
-    /// Keys and values in order, their size, and the places of the keys where these are many.
-    Map(Rc<Vec<(RcStr, Value)>>, Size, Option<Rc<Places>>),
+    /// A map.
+    Map(Rc<Entries>),
+}
+
+/// What a list holds, behind one pointer: a value is small, since it is moved at each step.
+#[derive(Drop)]
+#[cycle(value)]
+pub struct Items {
+    pub(crate) values: Vec<Value>,
+    pub(crate) size: Size,
+}
+
+/// What a map holds, behind one pointer: keys and values in order, and the places of the keys where these are many.
+#[derive(Drop)]
+#[cycle(value)]
+pub struct Entries {
+    pub(crate) rows: Vec<(RcStr, Value)>,
+    pub(crate) size: Size,
+    pub(crate) places: Option<Places>,
 }
 
 /// A value of a template expression, at most 64 deep. Lists and maps are shared, and nothing walks one to find its depth
@@ -145,20 +162,19 @@ impl Value {
                     shape: Shape::Str(s),
                 })
             }
-            Shape::List(items, size) => {
+            Shape::List(items) => {
                 let items = items.clone()?;
                 Ok(Value {
-                    shape: Shape::List(items, *size),
+                    shape: Shape::List(items),
                 })
             }
             Shape::Range(first, last) => Ok(Value {
                 shape: Shape::Range(*first, *last),
             }),
-            Shape::Map(entries, size, places) => {
+            Shape::Map(entries) => {
                 let entries = entries.clone()?;
-                let places = share(places)?;
                 Ok(Value {
-                    shape: Shape::Map(entries, *size, places),
+                    shape: Shape::Map(entries),
                 })
             }
         }
@@ -221,9 +237,9 @@ impl Value {
         ensures shallow { result ≤ 64 }
     {
         match &self.shape {
-            Shape::List(_, size) => size.depth,
+            Shape::List(items) => items.size.depth,
             Shape::Range(_, _) => 1,
-            Shape::Map(_, size, _) => size.depth,
+            Shape::Map(entries) => entries.size.depth,
             _ => 0,
         }
     }
@@ -234,8 +250,8 @@ impl Value {
     {
         match &self.shape {
             Shape::Str(s) => s.len() as u64,
-            Shape::List(_, size) => size.bytes,
-            Shape::Map(_, size, _) => size.bytes,
+            Shape::List(items) => items.size.bytes,
+            Shape::Map(entries) => entries.size.bytes,
             _ => 0,
         }
     }

@@ -37,9 +37,9 @@ impl Value {
             Shape::Whole(n) => View::Whole(*n),
             Shape::Number(t) => View::Number(t),
             Shape::Str(s) => View::Text(s),
-            Shape::List(items, _) => View::List(items),
+            Shape::List(items) => View::List(&items.values),
             Shape::Range(first, last) => View::Range(*first, *last),
-            Shape::Map(entries, _, _) => View::Map(entries),
+            Shape::Map(entries) => View::Map(&entries.rows),
         }
     }
 }

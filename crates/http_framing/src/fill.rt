@@ -10,6 +10,9 @@ use gw_base::Source;
 // The most bytes that are asked for at a time.
 const CHUNK: usize = 4096;
 
+// The same where a head is awaited, which is short: the room for a read is cleared first.
+const HEAD_CHUNK: usize = 2048;
+
 /// What a read came to.
 #[derive(Clone, Copy, Debug, PartialEq, Eq)]
 pub enum Filled {
@@ -23,17 +26,17 @@ pub enum Filled {
     Memory,
 }
 
-/// Takes at least one byte more, but at the end.
+// Takes at least one byte more, but at the end, by one read into this piece.
 #[tactic(auto, using(crate::proofs::Overs::takes_consumed, crate::proofs::Overs::takes_kept))]
-pub fn fill<S: Source>(source: &mut S, held: &mut ReadAhead) -> Filled
+fn fill_by<S: Source>(source: &mut S, held: &mut ReadAhead, piece: &mut [u8]) -> Filled
+    requires { 0 < length piece.old }
     ensures bytes { Fills held.old (S.left source.old) held.new (S.left source.new) result }
     ensures taken { Takes (S.left source.old) (S.left source.new) }
     ensures fault { result ≡ Filled.Fault → Rose (S.faults source.old) (S.faults source.new) }
     ensures later { S.faults source.old ≤ S.faults source.new }
     ensures beside { S.beside source.new ≡ S.beside source.old }
 {
-    let mut piece = [0u8; CHUNK];
-    let Ok(n) = source.read(&mut piece) else {
+    let Ok(n) = source.read(piece) else {
         return Filled::Fault;
     };
     if n == 0 {
@@ -43,6 +46,17 @@ pub fn fill<S: Source>(source: &mut S, held: &mut ReadAhead) -> Filled
         Ok(()) => Filled::More,
         Err(_) => Filled::Memory,
     }
+}
+
+/// Takes at least one byte more, but at the end.
+pub fn fill<S: Source>(source: &mut S, held: &mut ReadAhead) -> Filled
+    ensures bytes { Fills held.old (S.left source.old) held.new (S.left source.new) result }
+    ensures taken { Takes (S.left source.old) (S.left source.new) }
+    ensures fault { result ≡ Filled.Fault → Rose (S.faults source.old) (S.faults source.new) }
+    ensures later { S.faults source.old ≤ S.faults source.new }
+    ensures beside { S.beside source.new ≡ S.beside source.old }
+{
+    fill_by(source, held, &mut [0u8; CHUNK])
 }
 
 // Whether a line feed is among the bytes from this place on.
@@ -66,7 +80,7 @@ pub fn fill_line<S: Source>(source: &mut S, held: &mut ReadAhead, limit: usize) 
 {
     loop {
         let at = held.len();
-        match fill(source, held) {
+        match fill_by(source, held, &mut [0u8; HEAD_CHUNK]) {
             Filled::More => {}
             Filled::End => return Filled::End,
             Filled::Fault => return Filled::Fault,

@@ -3,7 +3,7 @@
 //! ```text
 //! let vowel = Pattern::build(alloc, "[aeiou]")?;       // Err(BadPattern) where the source is no pattern
 //! vowel.searches(alloc, "rhythm")?                     // false: no match stands anywhere in the text
-//! let mut searcher = vowel.searcher(alloc)?;           // for many texts: each search is then a hundred times cheaper
+//! let mut searcher = vowel.searcher(alloc)?;           // for many texts: what a search works with is made once
 //! searcher.searches("gateway")                         // true
 //! ```
 //!

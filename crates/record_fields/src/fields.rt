@@ -1,14 +1,16 @@
 // Fields, and what they stand for.
-ghost use Rattle.std.specs.Prelude.{◌≡◌, ℕ, List, map, IfOk};
-ghost use Rattle.std.specs.Borrow.{Bor};
+ghost use Rattle.std.specs.Prelude.{◌≡◌, IfOk};
 ghost use Rattle.std.specs.List.{list_all};
 ghost use Rattle.std.specs.Char.{is_digit as is_digit_of};
 ghost use Rattle.std.specs.Option.{option_map};
-ghost use Rattle.record_fields.specs.Coding.{parts_of, is_graphic as is_graphic_of, begins_hex as begins_hex_of, are_escapes as are_escapes_of, decoded as decoded_of, all_decoded, fields_of, text_of as text_of_field};
+ghost use Rattle.record_fields.specs.Coding.{is_graphic as is_graphic_of, begins_hex as begins_hex_of, are_escapes as are_escapes_of, decoded as decoded_of, fields_of, text_of as text_of_field};
 
 use gw_base::{Bytes, Text};
 use percent_encoding::percent_decode;
 use std::alloc::{AllocError, Global};
+
+/// As many fields as most lines have; where a line has more, their vector grows.
+const FEW_FIELDS: usize = 8;
 
 fn is_hex(b: u8) -> bool
     ensures { result ≡ is_digit_of b 16 }
@@ -60,31 +62,18 @@ fn decode(alloc: Global, field: &[u8]) -> Result<Option<Bytes>, AllocError>
     Ok(Some(Bytes::of(bytes)))
 }
 
-fn parts_in<'a>(alloc: Global, line: &'a [u8]) -> Result<Vec<&'a [u8]>, AllocError>
-    ensures { IfOk result (λ parts. map (λ (part : Bor (List ℕ)). part.now) parts.items ≡ parts_of line.now) }
+/// What the fields of a line stand for, where each has its form.
+pub fn fields_in(alloc: Global, line: &[u8]) -> Result<Option<Vec<Bytes>>, AllocError>
+    ensures { IfOk result (λ fields. option_map (λ v. v.items) fields ≡ fields_of line.now) }
 {
-    line.split(|b| *b == b' ').collect(alloc)
-}
-
-fn all_of(alloc: Global, parts: &[&[u8]]) -> Result<Option<Vec<Bytes>>, AllocError>
-    ensures { IfOk result (λ fields. option_map (λ v. v.items) fields ≡ all_decoded (map (λ (part : Bor (List ℕ)). part.now) parts.now)) }
-{
-    let mut fields = Vec::with_capacity(alloc, parts.len())?;
-    for part in parts {
+    let mut fields = Vec::with_capacity(alloc, FEW_FIELDS)?;
+    for part in line.split(|b| *b == b' ') {
         let Some(field) = decode(alloc, part)? else {
             return Ok(None);
         };
         fields.push(field)?;
     }
     Ok(Some(fields))
-}
-
-/// What the fields of a line stand for, where each has its form.
-pub fn fields_in(alloc: Global, line: &[u8]) -> Result<Option<Vec<Bytes>>, AllocError>
-    ensures { IfOk result (λ fields. option_map (λ v. v.items) fields ≡ fields_of line.now) }
-{
-    let parts = parts_in(alloc, line)?;
-    all_of(alloc, &parts)
 }
 
 /// The text of a field, where it is UTF-8.

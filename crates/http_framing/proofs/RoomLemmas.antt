@@ -1,9 +1,10 @@
 -- How many bytes so many fields have.
-use Rattle.std.proofs.Common.{ℕ, ◌+◌, ◌*◌, ◌≤◌, List, [], ◌∷◌, All, length, arith, ap, inl, inr, length-append}
+use Rattle.std.proofs.Common.{◌≡◌, ℕ, ◌+◌, ◌*◌, ◌≤◌, List, [], ◌∷◌, All, length, arith, refl, ap, inl, inr, length-append}
 use Rattle.std.specs.List.{flat_map}
 use Rattle.std.proofs.lemmas.List.Elements.{All-head, All-tail}
 use Rattle.httparse.specs.Grammar.{Field, IsField, LineEnd, crlf, lf, print_end, print_field, RequestHead, print_request, ResponseHead, print_response, MayBecomeRequest, HasNoRequest}
 use Rattle.httparse.specs.Spans.{RequestExceeds, ResponseExceeds}
+use Rattle.httparse.proofs.OpenLemmas.{line_blank, request_may_from_line}
 use Rattle.http_framing.specs.Heads.{IsUnfinished}
 
 end_long : (e : LineEnd) → 1 ≤ length (print_end e)
@@ -29,6 +30,14 @@ exceeds_long room buf (front, rest, cut, h, reads, over) =
 pub unfinished_is : (buf : List ℕ) → HasNoRequest buf → MayBecomeRequest buf → IsUnfinished buf
 unfinished_is buf none (inl (more, h, reads)) = (none, λ bad. bad.0 more h [] reads)
 unfinished_is buf none (inr inside) = (none, λ bad. bad.1 inside)
+
+-- no bytes are no head yet, and may become one
+pub nothing_is_unfinished : (buf : List ℕ) → length buf ≡ 0 → IsUnfinished buf
+nothing_is_unfinished [] e =
+    unfinished_is []
+    (λ h rest reads. omega (arith, head_long h reads.0.fields, ap length reads.1, length-append {A = ℕ}))
+    (request_may_from_line (inl (line_blank (record { more = []; tree = []; reads = λ rest. refl }))))
+nothing_is_unfinished (b ∷ rest) e = absurd (omega (arith, e))
 
 -- ---- the same of replies
 

@@ -49,6 +49,10 @@ fn read_front(
     requires { length buf.now ≤ 10240 }
     ensures { IfOk result (IsFront buf.now room.new.items) }
 {
+    // Nothing is no head yet. A connection begins and ends so.
+    if buf.is_empty() {
+        return Ok(Front::Unfinished);
+    }
     make_room(alloc, room, FEW_FIELDS)?;
     if let Some(front) = front_in(buf, room.as_mut_slice()) {
         return Ok(front);

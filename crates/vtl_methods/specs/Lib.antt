@@ -1,5 +1,3 @@
--- what comes of a call that has so much room
-pub mod Answers
 -- whether a value is among others, and the bytes that are compared
 pub mod Comparisons
 -- the table: what each method gives

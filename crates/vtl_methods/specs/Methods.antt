@@ -81,10 +81,17 @@ equals t a = boolean (option_map_or (bytes_eq t) (text_in a) false)
 abbrev pub place_in : List ℕ → List ℕ → Val
 place_in t s = option_map_or counted (index_of t s) (whole (negsuc 0))
 
+-- from a character on, and up to another
+abbrev pub part_from : List ℕ → Val → Val
+part_from t i = at_whole (λ m. text_or_null (substring_from t m)) i
+
+abbrev pub part_between : List ℕ → Val → Val → Val
+part_between t i j = at_whole (λ m. at_whole (λ n. text_or_null (substring t m n)) j) i
+
 abbrev pub substring_at : List ℕ → List Val → Val
 substring_at t [] = null
-substring_at t (i ∷ []) = at_whole (λ m. text_or_null (substring_from t m)) i
-substring_at t (i ∷ j ∷ []) = at_whole (λ m. at_whole (λ n. text_or_null (substring t m n)) j) i
+substring_at t (i ∷ []) = part_from t i
+substring_at t (i ∷ j ∷ []) = part_between t i j
 substring_at t (i ∷ j ∷ k ∷ more) = null
 
 abbrev pub replaced_all : List ℕ → List ℕ → List ℕ → Val

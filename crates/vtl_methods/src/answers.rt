@@ -1,5 +1,5 @@
 // Arguments, and values that methods give.
-ghost use Rattle.std.specs.Prelude.{◌≡◌, IfOk};
+ghost use Rattle.std.specs.Prelude.{◌≡◌, length, IfOk};
 ghost use Rattle.std.specs.Option.{option_map};
 ghost use Rattle.std.specs.Rc.{rc_str_bytes};
 ghost use Rattle.std.specs.String.{string_bytes as bytes_in};
@@ -70,18 +70,33 @@ pub(crate) fn counted(n: usize) -> Value
     }
 }
 
-/// The value of a text that was made.
-pub(crate) fn text_value(made: String) -> Result<Value, Memory>
-    ensures { IfOk result (λ v. v ≡ text_val (bytes_in made)) }
-{
-    Ok(Value::text(RcStr::from_string(made)?))
-}
-
 /// The value of a part of a text.
 pub(crate) fn part_value(alloc: Global, part: &str) -> Result<Value, Memory>
     ensures { IfOk result (λ v. v ≡ text_val part.now) }
 {
     Ok(Value::text(RcStr::from_str(alloc, part)?))
+}
+
+/// The value of a text that was made, and its bytes, where these have room.
+pub(crate) fn text_within(made: String, room: u64) -> Result<(Value, u64), Lack>
+    ensures { Within room (text_val (bytes_in made), length (bytes_in made)) result }
+{
+    let bytes = made.len() as u64;
+    if room < bytes {
+        return Err(Lack::Room);
+    }
+    Ok((Value::text(RcStr::from_string(made)?), bytes))
+}
+
+/// The value of a part of a text, and its bytes, where these have room.
+pub(crate) fn part_within(alloc: Global, part: &str, room: u64) -> Result<(Value, u64), Lack>
+    ensures { Within room (text_val part.now, length part.now) result }
+{
+    let bytes = part.len() as u64;
+    if room < bytes {
+        return Err(Lack::Room);
+    }
+    Ok((Value::text(RcStr::from_str(alloc, part)?), bytes))
 }
 
 /// The value with the bytes of its strings, where these have room. No memory has as many bytes as there are numbers.

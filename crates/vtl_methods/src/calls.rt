@@ -6,7 +6,7 @@ ghost use Rattle.vtl_values.specs.Vals.{rows_of};
 ghost use Rattle.vtl_values.specs.Within.{Within};
 ghost use Rattle.vtl_methods.specs.Methods.{method_of, method_texts, by_kind, listed_by_name, list_texts_by_name, stringed, of_none};
 
-use crate::answers::{measured, text_value};
+use crate::answers::{measured, text_within};
 use crate::lists::on_list;
 use crate::maps::on_map;
 use crate::names::{method_of_list, method_of_map, method_of_text};
@@ -68,8 +68,7 @@ fn text_of(alloc: Global, value: &Value, room: u64) -> Result<(Value, u64), Lack
         Ok(()) => {}
         Err(lack) => return Err(lack),
     }
-    let bytes = text.len() as u64;
-    Ok((text_value(text)?, bytes))
+    text_within(text, room)
 }
 
 fn call_on_text(
@@ -84,10 +83,7 @@ fn call_on_text(
     let Some(method) = method_of_text(name) else {
         return Ok((Value::null(), 0));
     };
-    match on_text(alloc, method, text.as_str(), arguments, room) {
-        Ok(value) => measured(value, room),
-        Err(lack) => Err(lack),
-    }
+    on_text(alloc, method, text.as_str(), arguments, room)
 }
 
 fn call_on_map(

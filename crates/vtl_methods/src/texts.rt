@@ -1,14 +1,15 @@
 // The methods of a text.
 ghost use Rattle.std.specs.Prelude.{◌≡◌, map, IfOk};
 ghost use Rattle.std.specs.Option.{option_map};
-ghost use Rattle.vtl_texts.specs.Characters.{substring as substring_of, substring_from as substring_from_of};
 ghost use Rattle.vtl_texts.specs.Places.{replaced};
-ghost use Rattle.vtl_values.specs.Val.{text as text_val};
+ghost use Rattle.vtl_values.specs.Val.{string_bytes, text as text_val};
 ghost use Rattle.vtl_values.specs.Making.{listed};
-ghost use Rattle.vtl_methods.specs.Answers.{Answers};
-ghost use Rattle.vtl_methods.specs.Methods.{text_method as given, at_whole, text_or_null, replaced_all as replaced_all_of, split_by as split_by_of};
+ghost use Rattle.vtl_values.specs.Within.{Within};
+ghost use Rattle.vtl_methods.specs.Methods.{text_method as given, part_from as part_from_of, part_between as part_between_of, text_or_null, replaced_all as replaced_all_of, split_by as split_by_of};
 
-use crate::answers::{alone, counted, only, only_text, part_value, text_value, two_texts};
+use crate::answers::{
+    alone, counted, measured, only, only_text, part_value, part_within, text_within, two_texts,
+};
 use crate::names::TextMethod;
 use gw_base::Memory;
 use std::alloc::Global;
@@ -18,51 +19,54 @@ use vtl_texts::{
 };
 use vtl_values::{Lack, ListMaker, Value};
 
-/// What a method of this text gives.
+/// What a method of this text gives, and the bytes of its strings, where these have room.
 pub(crate) fn on_text(
     alloc: Global,
     method: TextMethod,
     text: &str,
     arguments: &[Value],
     room: u64,
-) -> Result<Value, Lack>
-    ensures { Answers room (given method text.now arguments.now) result }
+) -> Result<(Value, u64), Lack>
+    ensures { Within room (given method text.now arguments.now, string_bytes (given method text.now arguments.now)) result }
 {
     match method {
-        TextMethod::Length => Ok(length_of(text, arguments)),
-        TextMethod::Equals => Ok(equals(text, arguments)),
-        TextMethod::Contains => Ok(contains_text(text, arguments)),
-        TextMethod::StartsWith => Ok(starts_with_text(text, arguments)),
-        TextMethod::EndsWith => Ok(ends_with_text(text, arguments)),
-        TextMethod::IndexOf => Ok(place_of(text, arguments)),
-        TextMethod::Substring => Ok(substring_at(alloc, text, arguments)?),
-        TextMethod::ToUpperCase => Ok(to_upper(alloc, text, arguments)?),
-        TextMethod::ToLowerCase => Ok(to_lower(alloc, text, arguments)?),
-        TextMethod::Trim => Ok(trimmed(alloc, text, arguments)?),
+        TextMethod::Length => Ok((length_of(text, arguments), 0)),
+        TextMethod::Equals => Ok((equals(text, arguments), 0)),
+        TextMethod::Contains => Ok((contains_text(text, arguments), 0)),
+        TextMethod::StartsWith => Ok((starts_with_text(text, arguments), 0)),
+        TextMethod::EndsWith => Ok((ends_with_text(text, arguments), 0)),
+        TextMethod::IndexOf => Ok((place_of(text, arguments), 0)),
+        TextMethod::Substring => substring_at(alloc, text, arguments, room),
+        TextMethod::ToUpperCase => to_upper(alloc, text, arguments, room),
+        TextMethod::ToLowerCase => to_lower(alloc, text, arguments, room),
+        TextMethod::Trim => trimmed(alloc, text, arguments, room),
         TextMethod::Replace => replace_texts(alloc, text, arguments, room),
         TextMethod::ReplaceAll => replace_patterns(alloc, text, arguments, room),
-        TextMethod::Split => Ok(split_text(alloc, text, arguments)?),
-        TextMethod::IsEmpty => Ok(is_empty(text, arguments)),
+        TextMethod::Split => split_text(alloc, text, arguments, room),
+        TextMethod::IsEmpty => Ok((is_empty(text, arguments), 0)),
     }
 }
 
 #[tactic(auto, unfolding(crate::specs::Methods::text_method))]
 fn length_of(text: &str, arguments: &[Value]) -> Value
-    ensures { result ≡ given TextMethod.Length text.now arguments.now }
+    ensures value { result ≡ given TextMethod.Length text.now arguments.now }
+    ensures bytes { string_bytes result ≡ 0 }
 {
     alone(counted(length(text)), arguments)
 }
 
 #[tactic(auto, unfolding(crate::specs::Methods::text_method))]
 fn is_empty(text: &str, arguments: &[Value]) -> Value
-    ensures { result ≡ given TextMethod.IsEmpty text.now arguments.now }
+    ensures value { result ≡ given TextMethod.IsEmpty text.now arguments.now }
+    ensures bytes { string_bytes result ≡ 0 }
 {
     alone(Value::boolean(text.is_empty()), arguments)
 }
 
 #[tactic(auto, unfolding(crate::specs::Methods::text_method))]
 fn equals(text: &str, arguments: &[Value]) -> Value
-    ensures { result ≡ given TextMethod.Equals text.now arguments.now }
+    ensures value { result ≡ given TextMethod.Equals text.now arguments.now }
+    ensures bytes { string_bytes result ≡ 0 }
 {
     let Some(other) = only(arguments) else {
         return Value::null();
@@ -75,7 +79,8 @@ fn equals(text: &str, arguments: &[Value]) -> Value
 
 #[tactic(auto, unfolding(crate::specs::Methods::text_method))]
 fn contains_text(text: &str, arguments: &[Value]) -> Value
-    ensures { result ≡ given TextMethod.Contains text.now arguments.now }
+    ensures value { result ≡ given TextMethod.Contains text.now arguments.now }
+    ensures bytes { string_bytes result ≡ 0 }
 {
     match only_text(arguments) {
         Some(part) => Value::boolean(contains(text, part.as_str())),
@@ -85,7 +90,8 @@ fn contains_text(text: &str, arguments: &[Value]) -> Value
 
 #[tactic(auto, unfolding(crate::specs::Methods::text_method))]
 fn starts_with_text(text: &str, arguments: &[Value]) -> Value
-    ensures { result ≡ given TextMethod.StartsWith text.now arguments.now }
+    ensures value { result ≡ given TextMethod.StartsWith text.now arguments.now }
+    ensures bytes { string_bytes result ≡ 0 }
 {
     match only_text(arguments) {
         Some(part) => Value::boolean(starts_with(text, part.as_str())),
@@ -95,7 +101,8 @@ fn starts_with_text(text: &str, arguments: &[Value]) -> Value
 
 #[tactic(auto, unfolding(crate::specs::Methods::text_method))]
 fn ends_with_text(text: &str, arguments: &[Value]) -> Value
-    ensures { result ≡ given TextMethod.EndsWith text.now arguments.now }
+    ensures value { result ≡ given TextMethod.EndsWith text.now arguments.now }
+    ensures bytes { string_bytes result ≡ 0 }
 {
     match only_text(arguments) {
         Some(part) => Value::boolean(ends_with(text, part.as_str())),
@@ -105,7 +112,8 @@ fn ends_with_text(text: &str, arguments: &[Value]) -> Value
 
 #[tactic(auto, unfolding(crate::specs::Methods::text_method))]
 fn place_of(text: &str, arguments: &[Value]) -> Value
-    ensures { result ≡ given TextMethod.IndexOf text.now arguments.now }
+    ensures value { result ≡ given TextMethod.IndexOf text.now arguments.now }
+    ensures bytes { string_bytes result ≡ 0 }
 {
     let Some(part) = only_text(arguments) else {
         return Value::null();
@@ -117,83 +125,99 @@ fn place_of(text: &str, arguments: &[Value]) -> Value
 }
 
 #[tactic(auto, unfolding(crate::specs::Methods::text_method))]
-fn to_upper(alloc: Global, text: &str, arguments: &[Value]) -> Result<Value, Memory>
-    ensures { IfOk result (λ v. v ≡ given TextMethod.ToUpperCase text.now arguments.now) }
+fn to_upper(alloc: Global, text: &str, arguments: &[Value], room: u64) -> Result<(Value, u64), Lack>
+    ensures { Within room (given TextMethod.ToUpperCase text.now arguments.now, string_bytes (given TextMethod.ToUpperCase text.now arguments.now)) result }
 {
     if !arguments.is_empty() {
-        return Ok(Value::null());
+        return Ok((Value::null(), 0));
     }
-    text_value(upper(alloc, text)?)
+    text_within(upper(alloc, text)?, room)
 }
 
 #[tactic(auto, unfolding(crate::specs::Methods::text_method))]
-fn to_lower(alloc: Global, text: &str, arguments: &[Value]) -> Result<Value, Memory>
-    ensures { IfOk result (λ v. v ≡ given TextMethod.ToLowerCase text.now arguments.now) }
+fn to_lower(alloc: Global, text: &str, arguments: &[Value], room: u64) -> Result<(Value, u64), Lack>
+    ensures { Within room (given TextMethod.ToLowerCase text.now arguments.now, string_bytes (given TextMethod.ToLowerCase text.now arguments.now)) result }
 {
     if !arguments.is_empty() {
-        return Ok(Value::null());
+        return Ok((Value::null(), 0));
     }
-    text_value(lower(alloc, text)?)
+    text_within(lower(alloc, text)?, room)
 }
 
 #[tactic(auto, unfolding(crate::specs::Methods::text_method))]
-fn trimmed(alloc: Global, text: &str, arguments: &[Value]) -> Result<Value, Memory>
-    ensures { IfOk result (λ v. v ≡ given TextMethod.Trim text.now arguments.now) }
+fn trimmed(alloc: Global, text: &str, arguments: &[Value], room: u64) -> Result<(Value, u64), Lack>
+    ensures { Within room (given TextMethod.Trim text.now arguments.now, string_bytes (given TextMethod.Trim text.now arguments.now)) result }
 {
     if !arguments.is_empty() {
-        return Ok(Value::null());
+        return Ok((Value::null(), 0));
     }
-    part_value(alloc, trim(text))
+    part_within(alloc, trim(text), room)
 }
 
 #[tactic(auto, unfolding(crate::specs::Methods::text_method))]
-fn substring_at(alloc: Global, text: &str, arguments: &[Value]) -> Result<Value, Memory>
-    ensures { IfOk result (λ v. v ≡ given TextMethod.Substring text.now arguments.now) }
+fn substring_at(
+    alloc: Global,
+    text: &str,
+    arguments: &[Value],
+    room: u64,
+) -> Result<(Value, u64), Lack>
+    ensures { Within room (given TextMethod.Substring text.now arguments.now, string_bytes (given TextMethod.Substring text.now arguments.now)) result }
 {
     match arguments {
-        [from] => part_from(alloc, text, from),
-        [from, to] => part_between(alloc, text, from, to),
-        _ => Ok(Value::null()),
+        [from] => part_from(alloc, text, from, room),
+        [from, to] => part_between(alloc, text, from, to, room),
+        _ => Ok((Value::null(), 0)),
     }
 }
 
-fn part_from(alloc: Global, text: &str, from: &Value) -> Result<Value, Memory>
-    ensures { IfOk result (λ v. v ≡ at_whole (λ m. text_or_null (substring_from_of text.now m)) from.now) }
+fn part_from(alloc: Global, text: &str, from: &Value, room: u64) -> Result<(Value, u64), Lack>
+    ensures { Within room (part_from_of text.now from.now, string_bytes (part_from_of text.now from.now)) result }
 {
     match from.as_whole() {
-        Some(from) => text_or_nothing(alloc, substring_from(text, from)),
-        None => Ok(Value::null()),
+        Some(from) => text_or_nothing(alloc, substring_from(text, from), room),
+        None => Ok((Value::null(), 0)),
     }
 }
 
-fn part_between(alloc: Global, text: &str, from: &Value, to: &Value) -> Result<Value, Memory>
-    ensures { IfOk result (λ v. v ≡ at_whole (λ m. at_whole (λ n. text_or_null (substring_of text.now m n)) to.now) from.now) }
+fn part_between(
+    alloc: Global,
+    text: &str,
+    from: &Value,
+    to: &Value,
+    room: u64,
+) -> Result<(Value, u64), Lack>
+    ensures { Within room (part_between_of text.now from.now to.now, string_bytes (part_between_of text.now from.now to.now)) result }
 {
     let Some(from) = from.as_whole() else {
-        return Ok(Value::null());
+        return Ok((Value::null(), 0));
     };
     let Some(to) = to.as_whole() else {
-        return Ok(Value::null());
+        return Ok((Value::null(), 0));
     };
-    text_or_nothing(alloc, substring(text, from, to))
+    text_or_nothing(alloc, substring(text, from, to), room)
 }
 
-fn text_or_nothing(alloc: Global, part: Option<&str>) -> Result<Value, Memory>
-    ensures { IfOk result (λ v. v ≡ text_or_null (option_map (λ p. p.now) part.entry)) }
+fn text_or_nothing(alloc: Global, part: Option<&str>, room: u64) -> Result<(Value, u64), Lack>
+    ensures { Within room (text_or_null (option_map (λ p. p.now) part.entry), string_bytes (text_or_null (option_map (λ p. p.now) part.entry))) result }
 {
     match part {
-        Some(part) => part_value(alloc, part),
-        None => Ok(Value::null()),
+        Some(part) => part_within(alloc, part, room),
+        None => Ok((Value::null(), 0)),
     }
 }
 
 #[tactic(auto, unfolding(crate::specs::Methods::text_method))]
-fn replace_texts(alloc: Global, text: &str, arguments: &[Value], room: u64) -> Result<Value, Lack>
-    ensures { Answers room (given TextMethod.Replace text.now arguments.now) result }
+fn replace_texts(
+    alloc: Global,
+    text: &str,
+    arguments: &[Value],
+    room: u64,
+) -> Result<(Value, u64), Lack>
+    ensures { Within room (given TextMethod.Replace text.now arguments.now, string_bytes (given TextMethod.Replace text.now arguments.now)) result }
 {
     match two_texts(arguments) {
         Some((from, to)) => replace_by(alloc, text, from.as_str(), to.as_str(), room),
-        None => Ok(Value::null()),
+        None => Ok((Value::null(), 0)),
     }
 }
 
@@ -203,47 +227,64 @@ fn replace_patterns(
     text: &str,
     arguments: &[Value],
     room: u64,
-) -> Result<Value, Lack>
-    ensures { Answers room (given TextMethod.ReplaceAll text.now arguments.now) result }
+) -> Result<(Value, u64), Lack>
+    ensures { Within room (given TextMethod.ReplaceAll text.now arguments.now, string_bytes (given TextMethod.ReplaceAll text.now arguments.now)) result }
 {
     match two_texts(arguments) {
         Some((pattern, to)) => replace_all(alloc, text, pattern.as_str(), to.as_str(), room),
-        None => Ok(Value::null()),
+        None => Ok((Value::null(), 0)),
     }
 }
 
 #[tactic(auto, unfolding(vtl_texts::specs::Places::replaced, vtl_texts::specs::Places::within))]
-fn replace_by(alloc: Global, text: &str, from: &str, to: &str, room: u64) -> Result<Value, Lack>
-    ensures { Answers room (text_or_null (replaced text.now from.now to.now)) result }
+fn replace_by(
+    alloc: Global,
+    text: &str,
+    from: &str,
+    to: &str,
+    room: u64,
+) -> Result<(Value, u64), Lack>
+    ensures { Within room (text_or_null (replaced text.now from.now to.now), string_bytes (text_or_null (replaced text.now from.now to.now))) result }
 {
     if from.is_empty() {
-        return Ok(Value::null());
+        return Ok((Value::null(), 0));
     }
     match replace(alloc, text, from, to, room)? {
-        Some(made) => Ok(text_value(made)?),
+        Some(made) => text_within(made, room),
         None => Err(Lack::Room),
     }
 }
 
-fn replace_all(alloc: Global, text: &str, pattern: &str, to: &str, room: u64) -> Result<Value, Lack>
-    ensures { Answers room (replaced_all_of text.now pattern.now to.now) result }
+fn replace_all(
+    alloc: Global,
+    text: &str,
+    pattern: &str,
+    to: &str,
+    room: u64,
+) -> Result<(Value, u64), Lack>
+    ensures { Within room (replaced_all_of text.now pattern.now to.now, string_bytes (replaced_all_of text.now pattern.now to.now)) result }
 {
     let Some(from) = literal(alloc, pattern)? else {
-        return Ok(Value::null());
+        return Ok((Value::null(), 0));
     };
     let Some(to) = replacement(alloc, to)? else {
-        return Ok(Value::null());
+        return Ok((Value::null(), 0));
     };
     replace_by(alloc, text, from.as_str(), to.as_str(), room)
 }
 
 #[tactic(auto, unfolding(crate::specs::Methods::text_method))]
-fn split_text(alloc: Global, text: &str, arguments: &[Value]) -> Result<Value, Memory>
-    ensures { IfOk result (λ v. v ≡ given TextMethod.Split text.now arguments.now) }
+fn split_text(
+    alloc: Global,
+    text: &str,
+    arguments: &[Value],
+    room: u64,
+) -> Result<(Value, u64), Lack>
+    ensures { Within room (given TextMethod.Split text.now arguments.now, string_bytes (given TextMethod.Split text.now arguments.now)) result }
 {
     match only_text(arguments) {
-        Some(pattern) => split_by(alloc, text, pattern.as_str()),
-        None => Ok(Value::null()),
+        Some(pattern) => measured(split_by(alloc, text, pattern.as_str())?, room),
+        None => Ok((Value::null(), 0)),
     }
 }
 

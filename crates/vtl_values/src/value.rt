@@ -142,6 +142,24 @@ impl Value {
     pub fn copied(&self) -> Result<Self, Memory>
         ensures { IfOk result (λ other. other ≡ self.now) }
     {
+        // Most are strings, and a function with few cases makes less room.
+        match &self.shape {
+            Shape::Str(s) => Value::shared_text(s),
+            _ => self.copied_by_case(),
+        }
+    }
+
+    // A string once more, sharing its bytes.
+    fn shared_text(text: &RcStr) -> Result<Self, Memory>
+        ensures { IfOk result (λ v. v ≡ text_val (rc_str_bytes text.now)) }
+    {
+        Ok(Value::text(text.clone()?))
+    }
+
+    // The same value once more, whatever it is.
+    fn copied_by_case(&self) -> Result<Self, Memory>
+        ensures { IfOk result (λ other. other ≡ self.now) }
+    {
         match &self.shape {
             Shape::Null => Ok(Value { shape: Shape::Null }),
             Shape::Bool(b) => Ok(Value {
@@ -156,12 +174,7 @@ impl Value {
                     shape: Shape::Number(t),
                 })
             }
-            Shape::Str(s) => {
-                let s = s.clone()?;
-                Ok(Value {
-                    shape: Shape::Str(s),
-                })
-            }
+            Shape::Str(s) => Value::shared_text(s),
             Shape::List(items) => {
                 let items = items.clone()?;
                 Ok(Value {

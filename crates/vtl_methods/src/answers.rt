@@ -1,9 +1,9 @@
 // Arguments, and values that methods give.
-ghost use Rattle.std.specs.Prelude.{◌≡◌, length, IfOk};
+ghost use Rattle.std.specs.Prelude.{◌≡◌, length, Ok, IfOk};
 ghost use Rattle.std.specs.Option.{option_map};
 ghost use Rattle.std.specs.Rc.{rc_str_bytes};
 ghost use Rattle.std.specs.String.{string_bytes as bytes_in};
-ghost use Rattle.vtl_values.specs.Val.{text as text_val, string_bytes};
+ghost use Rattle.vtl_values.specs.Val.{null as null_val, text as text_val, string_bytes};
 ghost use Rattle.vtl_values.specs.Within.{Within};
 ghost use Rattle.vtl_methods.specs.Methods.{only as only_of, only_text as only_text_of, two_texts as two_texts_of, of_none, counted as counted_of};
 
@@ -75,6 +75,20 @@ pub(crate) fn part_value(alloc: Global, part: &str) -> Result<Value, Memory>
     ensures { IfOk result (λ v. v ≡ text_val part.now) }
 {
     Ok(Value::text(RcStr::from_str(alloc, part)?))
+}
+
+/// A value that has no strings.
+pub(crate) fn bare(value: Value) -> Result<(Value, u64), Lack>
+    ensures { result ≡ Ok (value, 0) }
+{
+    Ok((value, 0))
+}
+
+/// No value.
+pub(crate) fn nothing() -> Result<(Value, u64), Lack>
+    ensures { result ≡ Ok (null_val, 0) }
+{
+    Ok((Value::null(), 0))
 }
 
 /// The value of a text that was made, and its bytes, where these have room.

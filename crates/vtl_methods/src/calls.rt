@@ -6,7 +6,7 @@ ghost use Rattle.vtl_values.specs.Vals.{rows_of};
 ghost use Rattle.vtl_values.specs.Within.{Within};
 ghost use Rattle.vtl_methods.specs.Methods.{method_of, method_texts, by_kind, listed_by_name, list_texts_by_name, stringed, of_none};
 
-use crate::answers::{measured, text_within};
+use crate::answers::{measured, nothing, text_within};
 use crate::lists::on_list;
 use crate::maps::on_map;
 use crate::names::{method_of_list, method_of_map, method_of_text};
@@ -35,10 +35,10 @@ pub fn call(
         View::List(_) => call_on_list(alloc, receiver, name, arguments, room),
         View::Range(_, _) => call_on_list(alloc, receiver, name, arguments, room),
         View::Map(entries) => call_on_map(alloc, receiver, entries, name, arguments, room),
-        View::Null => Ok((Value::null(), 0)),
-        View::Bool(_) => Ok((Value::null(), 0)),
-        View::Whole(_) => Ok((Value::null(), 0)),
-        View::Number(_) => Ok((Value::null(), 0)),
+        View::Null => nothing(),
+        View::Bool(_) => nothing(),
+        View::Whole(_) => nothing(),
+        View::Number(_) => nothing(),
     }
 }
 
@@ -51,7 +51,7 @@ fn to_string(
     ensures { Within room (of_none (stringed receiver.now) arguments.now, string_bytes (of_none (stringed receiver.now) arguments.now)) result }
 {
     if !arguments.is_empty() {
-        return Ok((Value::null(), 0));
+        return nothing();
     }
     text_of(alloc, receiver, room)
 }
@@ -61,7 +61,7 @@ fn text_of(alloc: Global, value: &Value, room: u64) -> Result<(Value, u64), Lack
     ensures { Within room (stringed value.now, string_bytes (stringed value.now)) result }
 {
     if value.is_null() {
-        return Ok((Value::null(), 0));
+        return nothing();
     }
     let mut text = String::new(alloc);
     match print(value, &mut text, room) {
@@ -81,7 +81,7 @@ fn call_on_text(
     ensures { Within room (by_kind name.now (text_val (rc_str_bytes text.now)) arguments.now, string_bytes (by_kind name.now (text_val (rc_str_bytes text.now)) arguments.now)) result }
 {
     let Some(method) = method_of_text(name) else {
-        return Ok((Value::null(), 0));
+        return nothing();
     };
     on_text(alloc, method, text.as_str(), arguments, room)
 }
@@ -98,7 +98,7 @@ fn call_on_map(
     ensures { Within room (by_kind name.now whole.now arguments.now, string_bytes (by_kind name.now whole.now arguments.now)) result }
 {
     let Some(method) = method_of_map(name) else {
-        return Ok((Value::null(), 0));
+        return nothing();
     };
     measured(on_map(alloc, method, whole, entries, arguments)?, room)
 }
@@ -114,6 +114,6 @@ fn call_on_list(
 {
     match method_of_list(name) {
         Some(method) => on_list(alloc, method, list, arguments, room),
-        None => Ok((Value::null(), 0)),
+        None => nothing(),
     }
 }

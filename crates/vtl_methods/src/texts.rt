@@ -1,5 +1,5 @@
 // The methods of a text.
-ghost use Rattle.std.specs.Prelude.{◌≡◌, map, IfOk};
+ghost use Rattle.std.specs.Prelude.{◌≡◌, map, Ok, IfOk};
 ghost use Rattle.std.specs.Option.{option_map};
 ghost use Rattle.vtl_texts.specs.Places.{replaced};
 ghost use Rattle.vtl_values.specs.Val.{string_bytes, text as text_val};
@@ -8,7 +8,8 @@ ghost use Rattle.vtl_values.specs.Within.{Within};
 ghost use Rattle.vtl_methods.specs.Methods.{text_method as given, part_from as part_from_of, part_between as part_between_of, text_or_null, replaced_all as replaced_all_of, split_by as split_by_of};
 
 use crate::answers::{
-    alone, counted, measured, only, only_text, part_value, part_within, text_within, two_texts,
+    alone, bare, counted, measured, nothing, only, only_text, part_value, part_within, text_within,
+    two_texts,
 };
 use crate::names::TextMethod;
 use gw_base::Memory;
@@ -30,12 +31,12 @@ pub(crate) fn on_text(
     ensures { Within room (given method text.now arguments.now, string_bytes (given method text.now arguments.now)) result }
 {
     match method {
-        TextMethod::Length => Ok((length_of(text, arguments), 0)),
-        TextMethod::Equals => Ok((equals(text, arguments), 0)),
-        TextMethod::Contains => Ok((contains_text(text, arguments), 0)),
-        TextMethod::StartsWith => Ok((starts_with_text(text, arguments), 0)),
-        TextMethod::EndsWith => Ok((ends_with_text(text, arguments), 0)),
-        TextMethod::IndexOf => Ok((place_of(text, arguments), 0)),
+        TextMethod::Length => length_of(text, arguments),
+        TextMethod::Equals => equals(text, arguments),
+        TextMethod::Contains => contains_text(text, arguments),
+        TextMethod::StartsWith => starts_with_text(text, arguments),
+        TextMethod::EndsWith => ends_with_text(text, arguments),
+        TextMethod::IndexOf => place_of(text, arguments),
         TextMethod::Substring => substring_at(alloc, text, arguments, room),
         TextMethod::ToUpperCase => to_upper(alloc, text, arguments, room),
         TextMethod::ToLowerCase => to_lower(alloc, text, arguments, room),
@@ -43,84 +44,84 @@ pub(crate) fn on_text(
         TextMethod::Replace => replace_texts(alloc, text, arguments, room),
         TextMethod::ReplaceAll => replace_patterns(alloc, text, arguments, room),
         TextMethod::Split => split_text(alloc, text, arguments, room),
-        TextMethod::IsEmpty => Ok((is_empty(text, arguments), 0)),
+        TextMethod::IsEmpty => is_empty(text, arguments),
     }
 }
 
 #[tactic(auto, unfolding(crate::specs::Methods::text_method))]
-fn length_of(text: &str, arguments: &[Value]) -> Value
-    ensures value { result ≡ given TextMethod.Length text.now arguments.now }
-    ensures bytes { string_bytes result ≡ 0 }
+fn length_of(text: &str, arguments: &[Value]) -> Result<(Value, u64), Lack>
+    ensures value { result ≡ Ok (given TextMethod.Length text.now arguments.now, 0) }
+    ensures bytes { string_bytes (given TextMethod.Length text.now arguments.now) ≡ 0 }
 {
-    alone(counted(length(text)), arguments)
+    bare(alone(counted(length(text)), arguments))
 }
 
 #[tactic(auto, unfolding(crate::specs::Methods::text_method))]
-fn is_empty(text: &str, arguments: &[Value]) -> Value
-    ensures value { result ≡ given TextMethod.IsEmpty text.now arguments.now }
-    ensures bytes { string_bytes result ≡ 0 }
+fn is_empty(text: &str, arguments: &[Value]) -> Result<(Value, u64), Lack>
+    ensures value { result ≡ Ok (given TextMethod.IsEmpty text.now arguments.now, 0) }
+    ensures bytes { string_bytes (given TextMethod.IsEmpty text.now arguments.now) ≡ 0 }
 {
-    alone(Value::boolean(text.is_empty()), arguments)
+    bare(alone(Value::boolean(text.is_empty()), arguments))
 }
 
 #[tactic(auto, unfolding(crate::specs::Methods::text_method))]
-fn equals(text: &str, arguments: &[Value]) -> Value
-    ensures value { result ≡ given TextMethod.Equals text.now arguments.now }
-    ensures bytes { string_bytes result ≡ 0 }
+fn equals(text: &str, arguments: &[Value]) -> Result<(Value, u64), Lack>
+    ensures value { result ≡ Ok (given TextMethod.Equals text.now arguments.now, 0) }
+    ensures bytes { string_bytes (given TextMethod.Equals text.now arguments.now) ≡ 0 }
 {
     let Some(other) = only(arguments) else {
-        return Value::null();
+        return nothing();
     };
     match other.as_text() {
-        Some(other) => Value::boolean(text == other.as_str()),
-        None => Value::boolean(false),
+        Some(other) => bare(Value::boolean(text == other.as_str())),
+        None => bare(Value::boolean(false)),
     }
 }
 
 #[tactic(auto, unfolding(crate::specs::Methods::text_method))]
-fn contains_text(text: &str, arguments: &[Value]) -> Value
-    ensures value { result ≡ given TextMethod.Contains text.now arguments.now }
-    ensures bytes { string_bytes result ≡ 0 }
+fn contains_text(text: &str, arguments: &[Value]) -> Result<(Value, u64), Lack>
+    ensures value { result ≡ Ok (given TextMethod.Contains text.now arguments.now, 0) }
+    ensures bytes { string_bytes (given TextMethod.Contains text.now arguments.now) ≡ 0 }
 {
     match only_text(arguments) {
-        Some(part) => Value::boolean(contains(text, part.as_str())),
-        None => Value::null(),
+        Some(part) => bare(Value::boolean(contains(text, part.as_str()))),
+        None => nothing(),
     }
 }
 
 #[tactic(auto, unfolding(crate::specs::Methods::text_method))]
-fn starts_with_text(text: &str, arguments: &[Value]) -> Value
-    ensures value { result ≡ given TextMethod.StartsWith text.now arguments.now }
-    ensures bytes { string_bytes result ≡ 0 }
+fn starts_with_text(text: &str, arguments: &[Value]) -> Result<(Value, u64), Lack>
+    ensures value { result ≡ Ok (given TextMethod.StartsWith text.now arguments.now, 0) }
+    ensures bytes { string_bytes (given TextMethod.StartsWith text.now arguments.now) ≡ 0 }
 {
     match only_text(arguments) {
-        Some(part) => Value::boolean(starts_with(text, part.as_str())),
-        None => Value::null(),
+        Some(part) => bare(Value::boolean(starts_with(text, part.as_str()))),
+        None => nothing(),
     }
 }
 
 #[tactic(auto, unfolding(crate::specs::Methods::text_method))]
-fn ends_with_text(text: &str, arguments: &[Value]) -> Value
-    ensures value { result ≡ given TextMethod.EndsWith text.now arguments.now }
-    ensures bytes { string_bytes result ≡ 0 }
+fn ends_with_text(text: &str, arguments: &[Value]) -> Result<(Value, u64), Lack>
+    ensures value { result ≡ Ok (given TextMethod.EndsWith text.now arguments.now, 0) }
+    ensures bytes { string_bytes (given TextMethod.EndsWith text.now arguments.now) ≡ 0 }
 {
     match only_text(arguments) {
-        Some(part) => Value::boolean(ends_with(text, part.as_str())),
-        None => Value::null(),
+        Some(part) => bare(Value::boolean(ends_with(text, part.as_str()))),
+        None => nothing(),
     }
 }
 
 #[tactic(auto, unfolding(crate::specs::Methods::text_method))]
-fn place_of(text: &str, arguments: &[Value]) -> Value
-    ensures value { result ≡ given TextMethod.IndexOf text.now arguments.now }
-    ensures bytes { string_bytes result ≡ 0 }
+fn place_of(text: &str, arguments: &[Value]) -> Result<(Value, u64), Lack>
+    ensures value { result ≡ Ok (given TextMethod.IndexOf text.now arguments.now, 0) }
+    ensures bytes { string_bytes (given TextMethod.IndexOf text.now arguments.now) ≡ 0 }
 {
     let Some(part) = only_text(arguments) else {
-        return Value::null();
+        return nothing();
     };
     match index_of(text, part.as_str()) {
-        Some(place) => counted(place),
-        None => Value::whole(-1),
+        Some(place) => bare(counted(place)),
+        None => bare(Value::whole(-1)),
     }
 }
 
@@ -129,7 +130,7 @@ fn to_upper(alloc: Global, text: &str, arguments: &[Value], room: u64) -> Result
     ensures { Within room (given TextMethod.ToUpperCase text.now arguments.now, string_bytes (given TextMethod.ToUpperCase text.now arguments.now)) result }
 {
     if !arguments.is_empty() {
-        return Ok((Value::null(), 0));
+        return nothing();
     }
     text_within(upper(alloc, text)?, room)
 }
@@ -139,7 +140,7 @@ fn to_lower(alloc: Global, text: &str, arguments: &[Value], room: u64) -> Result
     ensures { Within room (given TextMethod.ToLowerCase text.now arguments.now, string_bytes (given TextMethod.ToLowerCase text.now arguments.now)) result }
 {
     if !arguments.is_empty() {
-        return Ok((Value::null(), 0));
+        return nothing();
     }
     text_within(lower(alloc, text)?, room)
 }
@@ -149,7 +150,7 @@ fn trimmed(alloc: Global, text: &str, arguments: &[Value], room: u64) -> Result<
     ensures { Within room (given TextMethod.Trim text.now arguments.now, string_bytes (given TextMethod.Trim text.now arguments.now)) result }
 {
     if !arguments.is_empty() {
-        return Ok((Value::null(), 0));
+        return nothing();
     }
     part_within(alloc, trim(text), room)
 }
@@ -166,7 +167,7 @@ fn substring_at(
     match arguments {
         [from] => part_from(alloc, text, from, room),
         [from, to] => part_between(alloc, text, from, to, room),
-        _ => Ok((Value::null(), 0)),
+        _ => nothing(),
     }
 }
 
@@ -175,7 +176,7 @@ fn part_from(alloc: Global, text: &str, from: &Value, room: u64) -> Result<(Valu
 {
     match from.as_whole() {
         Some(from) => text_or_nothing(alloc, substring_from(text, from), room),
-        None => Ok((Value::null(), 0)),
+        None => nothing(),
     }
 }
 
@@ -189,10 +190,10 @@ fn part_between(
     ensures { Within room (part_between_of text.now from.now to.now, string_bytes (part_between_of text.now from.now to.now)) result }
 {
     let Some(from) = from.as_whole() else {
-        return Ok((Value::null(), 0));
+        return nothing();
     };
     let Some(to) = to.as_whole() else {
-        return Ok((Value::null(), 0));
+        return nothing();
     };
     text_or_nothing(alloc, substring(text, from, to), room)
 }
@@ -202,7 +203,7 @@ fn text_or_nothing(alloc: Global, part: Option<&str>, room: u64) -> Result<(Valu
 {
     match part {
         Some(part) => part_within(alloc, part, room),
-        None => Ok((Value::null(), 0)),
+        None => nothing(),
     }
 }
 
@@ -217,7 +218,7 @@ fn replace_texts(
 {
     match two_texts(arguments) {
         Some((from, to)) => replace_by(alloc, text, from.as_str(), to.as_str(), room),
-        None => Ok((Value::null(), 0)),
+        None => nothing(),
     }
 }
 
@@ -232,7 +233,7 @@ fn replace_patterns(
 {
     match two_texts(arguments) {
         Some((pattern, to)) => replace_all(alloc, text, pattern.as_str(), to.as_str(), room),
-        None => Ok((Value::null(), 0)),
+        None => nothing(),
     }
 }
 
@@ -247,7 +248,7 @@ fn replace_by(
     ensures { Within room (text_or_null (replaced text.now from.now to.now), string_bytes (text_or_null (replaced text.now from.now to.now))) result }
 {
     if from.is_empty() {
-        return Ok((Value::null(), 0));
+        return nothing();
     }
     match replace(alloc, text, from, to, room)? {
         Some(made) => text_within(made, room),
@@ -265,10 +266,10 @@ fn replace_all(
     ensures { Within room (replaced_all_of text.now pattern.now to.now, string_bytes (replaced_all_of text.now pattern.now to.now)) result }
 {
     let Some(from) = literal(alloc, pattern)? else {
-        return Ok((Value::null(), 0));
+        return nothing();
     };
     let Some(to) = replacement(alloc, to)? else {
-        return Ok((Value::null(), 0));
+        return nothing();
     };
     replace_by(alloc, text, from.as_str(), to.as_str(), room)
 }
@@ -284,7 +285,7 @@ fn split_text(
 {
     match only_text(arguments) {
         Some(pattern) => measured(split_by(alloc, text, pattern.as_str())?, room),
-        None => Ok((Value::null(), 0)),
+        None => nothing(),
     }
 }
 

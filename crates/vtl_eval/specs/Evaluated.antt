@@ -8,15 +8,20 @@ use Rattle.vtl_values.specs.Printed.{printed}
 use Rattle.vtl_eval.specs.Roots.{Meanings}
 use Rattle.vtl_eval.specs.World.{Scene, State, Outcome, ◌>>=◌, spend, there}
 use Rattle.vtl_eval.specs.declared.stop.Limit.{Limit}
-use Rattle.vtl_eval.specs.References.{ended}
+use Rattle.vtl_eval.specs.References.{Reached, ended}
 use Rattle.vtl_eval.specs.Meaning.{value, started, walked, operated}
+
+-- a reference from what its name begins with
+abbrev pub referred_on : ℕ → Meanings → Reached → Steps → State → Outcome Val
+referred_on b m r ss s = do
+  q ← walked b m ss r s
+  ended m q.0 q.1
 
 -- a reference
 abbrev pub referred : ℕ → Meanings → Base → Steps → State → Outcome Val
 referred b m x ss s = do
   r ← started b m x s
-  q ← walked b m ss r.0 r.1
-  ended m q.0 q.1
+  referred_on b m r.0 ss r.1
 
 abbrev pub further : Result Scene Limit → (Scene → Result Scene Limit) → Result Scene Limit
 further (Ok s) f = f s

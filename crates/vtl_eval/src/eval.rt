@@ -1,6 +1,6 @@
 // Expressions.
 ghost use Rattle.std.specs.Prelude.{◌≡◌, ◌≤◌, ◌<◌, IsTrue, length, IfOk};
-ghost use Rattle.vtl_grammar.specs.Tree.{named};
+ghost use Rattle.vtl_grammar.specs.Tree.{named, string};
 ghost use Rattle.vtl_grammar.specs.Expanded.{base_with, exprs_with, pairs_with, part_with, parts_with, step_with, steps_with};
 ghost use Rattle.vtl_values.specs.Making.{listed};
 ghost use Rattle.vtl_values.specs.Printed.{printed};
@@ -9,7 +9,7 @@ ghost use Rattle.vtl_reader.specs.Nodes.{expr_of, exprs_made, step_made, steps_m
 ghost use Rattle.vtl_eval.specs.Frames.{arguments_of, is_sound, seen};
 ghost use Rattle.vtl_eval.specs.Meaning.{value, started, values_of, pairs_of, piece, pieces, stepped, walked, operated};
 ghost use Rattle.vtl_eval.specs.Views.{Gives, scene_of, reached_of};
-ghost use Rattle.vtl_eval.specs.Evaluated.{referred, chain, linked};
+ghost use Rattle.vtl_eval.specs.Evaluated.{referred, referred_on, chain, linked};
 ghost use Rattle.vtl_eval.specs.References.{at_value};
 
 use crate::frame::{Frame, argument};
@@ -40,10 +40,48 @@ fn listed_value(alloc: Global, values: Vec<Value>) -> Result<Value, Memory>
     maker.close(alloc)
 }
 
-// The expression with this number.
+// A literal string.
+fn eval_text<R: Roots>(
+    alloc: Global,
+    _roots: &R,
+    budget: u64,
+    run: &mut Run,
+    k: usize,
+    text: &str,
+) -> Result<Value, Fail>
+    ensures { Gives (λ v. v) result (scene_of run.new) (R.kept _roots.now) (value budget (R.meanings _roots.now) (string text.now) (scene_of run.old, R.kept _roots.now)) }
+{
+    spend(budget, run)?;
+    make(run, text.len() as u64)?;
+    Ok(literal(alloc, run, k, text)?)
+}
+
+/// The expression with this number.
+#[cycle(eval)]
+pub fn eval<'a, R: Roots>(
+    alloc: Global,
+    roots: &R,
+    arena: &Arena,
+    frame: &'a Frame<'a>,
+    budget: u64,
+    run: &mut Run,
+    k: usize,
+) -> Result<Value, Fail>
+    requires frame { IsTrue (is_sound (length arena.now.exprs) frame.now) }
+    requires stands { k < length arena.now.exprs }
+    ensures { Gives (λ v. v) result (scene_of run.new) (R.kept roots.now) (value budget (R.meanings roots.now) (seen arena.now.exprs frame.now k) (scene_of run.old, R.kept roots.now)) }
+{
+    // Strings are the most frequent of arguments, and a function with few cases makes less room at its beginning.
+    match arena.expr(k) {
+        ExprNode::Text(text) => eval_text(alloc, roots, budget, run, k, text.as_str()),
+        _ => eval_by_case(alloc, roots, arena, frame, budget, run, k),
+    }
+}
+
+// The expression with this number, whatever it is.
 #[cycle(eval)]
 #[tactic(auto, using(crate::proofs::Chains::chain_seen))]
-pub fn eval<'a, R: Roots>(
+fn eval_by_case<'a, R: Roots>(
     alloc: Global,
     roots: &R,
     arena: &Arena,
@@ -65,11 +103,7 @@ pub fn eval<'a, R: Roots>(
             spend(budget, run)?;
             Ok(Value::boolean(*truth))
         }
-        ExprNode::Text(text) => {
-            spend(budget, run)?;
-            make(run, text.len() as u64)?;
-            Ok(literal(alloc, run, k, text.as_str())?)
-        }
+        ExprNode::Text(text) => eval_text(alloc, roots, budget, run, k, text.as_str()),
         ExprNode::Joined(parts) => {
             spend(budget, run)?;
             let pieces = eval_pieces(alloc, roots, arena, frame, budget, run, parts, k)?;
@@ -358,12 +392,32 @@ pub fn refer<'a, R: Roots>(
     requires steps { StepsBelow below steps.now }
     ensures { Gives (λ v. v) result (scene_of run.new) (R.kept roots.now) (referred budget (R.meanings roots.now) (base_with (arguments_of arena.now.exprs frame.now) (named name.now)) (steps_with (arguments_of arena.now.exprs frame.now) (steps_made (expr_of arena.now.exprs) steps.now)) (scene_of run.old, R.kept roots.now)) }
 {
-    let begun = match begin_in(alloc, roots, arena, frame, budget, run, name)? {
-        Reached::Value(value) => {
-            return walk_value(alloc, roots, arena, frame, budget, run, value, steps, below);
-        }
-        begun => begun,
-    };
+    match begin_in(alloc, roots, arena, frame, budget, run, name)? {
+        Reached::Value(value) => walk_value(
+            alloc, roots, arena, frame, budget, run, value, steps, below,
+        ),
+        begun => refer_on(alloc, roots, arena, frame, budget, run, begun, steps, below),
+    }
+}
+
+// The value of a reference from what its name begins with.
+#[cycle(eval)]
+fn refer_on<'a, R: Roots>(
+    alloc: Global,
+    roots: &R,
+    arena: &Arena,
+    frame: &'a Frame<'a>,
+    budget: u64,
+    run: &mut Run,
+    begun: Reached,
+    steps: &[StepNode],
+    below: usize,
+) -> Result<Value, Fail>
+    requires frame { IsTrue (is_sound (length arena.now.exprs) frame.now) }
+    requires stands { below ≤ length arena.now.exprs }
+    requires steps { StepsBelow below steps.now }
+    ensures { Gives (λ v. v) result (scene_of run.new) (R.kept roots.now) (referred_on budget (R.meanings roots.now) (reached_of begun) (steps_with (arguments_of arena.now.exprs frame.now) (steps_made (expr_of arena.now.exprs) steps.now)) (scene_of run.old, R.kept roots.now)) }
+{
     let reached = walk(alloc, roots, arena, frame, budget, run, begun, steps, below)?;
     end_reference(alloc, roots, run, reached)
 }
@@ -388,12 +442,12 @@ fn walk_value<'a, R: Roots>(
 {
     let mut value = first;
     for step in steps {
-        value = step_value(alloc, roots, arena, frame, budget, run, value, step, below)?;
+        value = step_value(alloc, roots, arena, frame, budget, run, &value, step, below)?;
     }
     Ok(value)
 }
 
-// A step of a reference behind a value. The arguments of most methods are few, and stand in no vector.
+// A step of a reference behind a value.
 #[cycle(eval)]
 fn step_value<'a, R: Roots>(
     alloc: Global,
@@ -402,35 +456,63 @@ fn step_value<'a, R: Roots>(
     frame: &'a Frame<'a>,
     budget: u64,
     run: &mut Run,
-    value: Value,
+    value: &Value,
     step: &StepNode,
     below: usize,
 ) -> Result<Value, Fail>
     requires frame { IsTrue (is_sound (length arena.now.exprs) frame.now) }
     requires stands { below ≤ length arena.now.exprs }
     requires step { StepBelow below step.now }
-    ensures { Gives at_value result (scene_of run.new) (R.kept roots.now) (stepped budget (R.meanings roots.now) (step_with (arguments_of arena.now.exprs frame.now) (step_made (expr_of arena.now.exprs) step.now)) (at_value value) (scene_of run.old, R.kept roots.now)) }
+    ensures { Gives at_value result (scene_of run.new) (R.kept roots.now) (stepped budget (R.meanings roots.now) (step_with (arguments_of arena.now.exprs frame.now) (step_made (expr_of arena.now.exprs) step.now)) (at_value value.now) (scene_of run.old, R.kept roots.now)) }
+{
+    // Calls without arguments are the most frequent, and go by themselves as strings do in `eval`.
+    match step {
+        StepNode::Call(name, ids) => match ids.as_slice() {
+            [] => call_value(alloc, roots, run, value, name.as_str(), &[]),
+            _ => step_by_case(alloc, roots, arena, frame, budget, run, value, step, below),
+        },
+        _ => step_by_case(alloc, roots, arena, frame, budget, run, value, step, below),
+    }
+}
+
+// The same of any step. The arguments of most methods are few, and stand in no vector.
+#[cycle(eval)]
+fn step_by_case<'a, R: Roots>(
+    alloc: Global,
+    roots: &R,
+    arena: &Arena,
+    frame: &'a Frame<'a>,
+    budget: u64,
+    run: &mut Run,
+    value: &Value,
+    step: &StepNode,
+    below: usize,
+) -> Result<Value, Fail>
+    requires frame { IsTrue (is_sound (length arena.now.exprs) frame.now) }
+    requires stands { below ≤ length arena.now.exprs }
+    requires step { StepBelow below step.now }
+    ensures { Gives at_value result (scene_of run.new) (R.kept roots.now) (stepped budget (R.meanings roots.now) (step_with (arguments_of arena.now.exprs frame.now) (step_made (expr_of arena.now.exprs) step.now)) (at_value value.now) (scene_of run.old, R.kept roots.now)) }
 {
     match step {
-        StepNode::Member(name) => Ok(member(&value, name.as_str())?),
+        StepNode::Member(name) => Ok(member(value, name.as_str())?),
         StepNode::Index(k) => {
             let index = eval(alloc, roots, arena, frame, budget, run, *k)?;
-            Ok(item_at(&index, &value)?)
+            Ok(item_at(&index, value)?)
         }
         StepNode::Call(name, ids) => match ids.as_slice() {
-            [] => call_value(alloc, roots, run, &value, name.as_str(), &[]),
+            [] => call_value(alloc, roots, run, value, name.as_str(), &[]),
             [j] => {
                 let argument = eval(alloc, roots, arena, frame, budget, run, *j)?;
-                call_value(alloc, roots, run, &value, name.as_str(), &[argument])
+                call_value(alloc, roots, run, value, name.as_str(), &[argument])
             }
             [i, j] => {
                 let first = eval(alloc, roots, arena, frame, budget, run, *i)?;
                 let second = eval(alloc, roots, arena, frame, budget, run, *j)?;
-                call_value(alloc, roots, run, &value, name.as_str(), &[first, second])
+                call_value(alloc, roots, run, value, name.as_str(), &[first, second])
             }
             ids => {
                 let values = eval_all(alloc, roots, arena, frame, budget, run, ids, below)?;
-                call_value(alloc, roots, run, &value, name.as_str(), &values)
+                call_value(alloc, roots, run, value, name.as_str(), &values)
             }
         },
     }

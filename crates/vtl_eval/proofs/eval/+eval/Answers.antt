@@ -13,8 +13,8 @@ use Rattle.vtl_eval.proofs.Chains.{chain_seen}
 use Rattle.vtl_eval.proofs.Referring.{value_refers, piece_refers, fails_then}
 use Rattle.vtl_eval.proofs.eval.+eval.Goals as goal
 
-pub eval-returns-in-Chain : goal.eval-returns-in-Chain
-eval-returns-in-Chain g t c =
+pub eval_by_case-returns-in-Chain : goal.eval_by_case-returns-in-Chain
+eval_by_case-returns-in-Chain g t c =
     let ns = c.args.arena.now.exprs in
     let a = arguments_of c.args.arena.now.exprs c.args.frame.now in
     let s : State = (scene_of c.args.run.now, g.R.Roots.kept c.args.roots.now) in
@@ -23,8 +23,8 @@ eval-returns-in-Chain g t c =
     ∙ chain_seen c.args.budget (g.R.Roots.meanings c.args.roots.now) a (expr_of ns) (expr_of ns c.in-Chain.j) c.in-Chain.links.items s in
     rw e (rw c.deref-in-Chain.ensures.value at c.eval_chain.ensures)
 
-pub eval-returns-in_ok-spend-in-Reference : goal.eval-returns-in_ok-spend-in-Reference
-eval-returns-in_ok-spend-in-Reference g t c =
+pub eval_by_case-returns-in_ok-spend-in-Reference : goal.eval_by_case-returns-in_ok-spend-in-Reference
+eval_by_case-returns-in_ok-spend-in-Reference g t c =
     let ns = c.args.arena.now.exprs in
     let a = arguments_of c.args.arena.now.exprs c.args.frame.now in
     let kept = g.R.Roots.kept c.args.roots.now in
@@ -64,14 +64,14 @@ eval_piece-returns-in_ok-shown_value-in-Printed g t c =
     ∙ ap (λ z. z >>= last) (rw (c.as_str-in-Printed.ensures, c.deref.ensures.value) at c.in-Ok.ensures)
     ∙ ap (λ z. Ok (z, st)) (sym (rw c.as_str-in-Printed-2.ensures at c.in_ok-shown_value-in-Printed.ensures))
 
-pub step_value-returns : goal.step_value-returns
-step_value-returns g t c =
+pub step_by_case-returns-in_ok-values-in_default : goal.step_by_case-returns-in_ok-values-in_default
+step_by_case-returns-in_ok-values-in_default g t c =
     let ns = c.args.arena.now.exprs in
     let a = arguments_of ns c.args.frame.now in
     let m = g.R.Roots.meanings c.args.roots.now in
     let kept = g.R.Roots.kept c.args.roots.now in
     let s : State = (scene_of c.args.run.now, kept) in
-    let e : stepped c.args.budget m (step_with a (step_made (expr_of ns) c.args.step.now)) (at_value c.args.value) s ≡ after_call m c.in-Call.name (at_value c.args.value) c.in_ok-values-in_default.values.items (scene_of c.eval_all.new.run, kept) =
-    ap (λ z. stepped c.args.budget m (step_with a (step_made (expr_of ns) z)) (at_value c.args.value) s) c.in-Call.is
-    ∙ ap (λ o. o >>= λ vs. after_call m c.in-Call.name (at_value c.args.value) vs.0 vs.1) (rw c.as_slice.ensures.value at c.in_ok-values-in_default.ensures) in
+    let e : stepped c.args.budget m (step_with a (step_made (expr_of ns) c.args.step.now)) (at_value c.args.value.now) s ≡ after_call m c.in-Call.name (at_value c.args.value.now) c.in_ok-values-in_default.values.items (scene_of c.eval_all.new.run, kept) =
+    ap (λ z. stepped c.args.budget m (step_with a (step_made (expr_of ns) z)) (at_value c.args.value.now) s) c.in-Call.is
+    ∙ ap (λ o. o >>= λ vs. after_call m c.in-Call.name (at_value c.args.value.now) vs.0 vs.1) (rw c.as_slice.ensures.value at c.in_ok-values-in_default.ensures) in
     rw e (rw (c.as_str-in_default.ensures, c.deref.ensures.value) at c.call_value-in_default.ensures)

@@ -13,6 +13,9 @@ use Rattle.vtl_eval.proofs.eval.+eval.Given as goal
 abbrev pub decreases-eval : goal.decreases-eval
 decreases-eval g l = (12 * length l.arena.now.exprs + 24) * size-Frame l.frame.now + (12 * l.k + 11)
 
+abbrev pub decreases-eval_by_case : goal.decreases-eval_by_case
+decreases-eval_by_case g l = (12 * length l.arena.now.exprs + 24) * size-Frame l.frame.now + (12 * l.k + 10)
+
 abbrev pub decreases-eval_all : goal.decreases-eval_all
 decreases-eval_all g l = (12 * length l.arena.now.exprs + 24) * size-Frame l.frame.now + (12 * l.below)
 
@@ -21,6 +24,9 @@ decreases-eval_pairs g l = (12 * length l.arena.now.exprs + 24) * size-Frame l.f
 
 abbrev pub decreases-step_value : goal.decreases-step_value
 decreases-step_value g l = (12 * length l.arena.now.exprs + 24) * size-Frame l.frame.now + (12 * l.below + 2)
+
+abbrev pub decreases-step_by_case : goal.decreases-step_by_case
+decreases-step_by_case g l = (12 * length l.arena.now.exprs + 24) * size-Frame l.frame.now + (12 * l.below + 1)
 
 abbrev pub decreases-walk_value : goal.decreases-walk_value
 decreases-walk_value g l = (12 * length l.arena.now.exprs + 24) * size-Frame l.frame.now + (12 * l.below + 3)
@@ -31,14 +37,17 @@ decreases-take_step g l = (12 * length l.arena.now.exprs + 24) * size-Frame l.fr
 abbrev pub decreases-walk : goal.decreases-walk
 decreases-walk g l = (12 * length l.arena.now.exprs + 24) * size-Frame l.frame.now + (12 * l.below + 3)
 
+abbrev pub decreases-refer_on : goal.decreases-refer_on
+decreases-refer_on g l = (12 * length l.arena.now.exprs + 24) * size-Frame l.frame.now + (12 * l.below + 4)
+
 abbrev pub decreases-refer : goal.decreases-refer
-decreases-refer g l = (12 * length l.arena.now.exprs + 24) * size-Frame l.frame.now + (12 * l.below + 4)
+decreases-refer g l = (12 * length l.arena.now.exprs + 24) * size-Frame l.frame.now + (12 * l.below + 5)
 
 abbrev pub decreases-eval_piece : goal.decreases-eval_piece
-decreases-eval_piece g l = (12 * length l.arena.now.exprs + 24) * size-Frame l.frame.now + (12 * l.below + 5)
+decreases-eval_piece g l = (12 * length l.arena.now.exprs + 24) * size-Frame l.frame.now + (12 * l.below + 6)
 
 abbrev pub decreases-eval_pieces : goal.decreases-eval_pieces
-decreases-eval_pieces g l = (12 * length l.arena.now.exprs + 24) * size-Frame l.frame.now + (12 * l.below + 6)
+decreases-eval_pieces g l = (12 * length l.arena.now.exprs + 24) * size-Frame l.frame.now + (12 * l.below + 7)
 
 abbrev pub decreases-eval_link : goal.decreases-eval_link
 decreases-eval_link g l = (12 * length l.arena.now.exprs + 24) * size-Frame l.frame.now + (12 * l.operand + 12)

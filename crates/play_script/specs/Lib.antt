@@ -4,6 +4,8 @@ pub mod Calls
 pub mod Coding
 -- the definitions that a script puts
 pub mod Definitions
+-- what is written of a text, and what is kept to be written
+pub mod Gathered
 -- what a script does, and what it prints
 pub mod Play
 -- the lines that are printed

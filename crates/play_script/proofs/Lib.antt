@@ -2,3 +2,5 @@
 pub mod Playing
 -- the first line of a text
 pub mod Lines
+-- posts that are spelled plainly
+pub mod Spelled

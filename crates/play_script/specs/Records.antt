@@ -128,14 +128,19 @@ shutdown_record m = do
 abbrev pub called : List ℕ → List ℕ → Record → Reading
 called api stage found = if is_name api && is_name stage then Ok found else Err BadRecord
 
-unfoldable pub post_record : List ℕ → List ℕ → List ℕ → List ℕ → List ℕ → Reading
-post_record m w a s b = do
-  moment ← number_of 64 m
-  word ← number_of 64 w
+-- a post of these numbers, by the fields behind them
+unfoldable pub post_behind : ℕ → ℕ → List ℕ → List ℕ → List ℕ → Reading
+post_behind moment word a s b = do
   api ← text_of a
   stage ← text_of s
   body ← text_of b
   called api stage (Post moment word api stage body)
+
+unfoldable pub post_record : List ℕ → List ℕ → List ℕ → List ℕ → List ℕ → Reading
+post_record m w a s b = do
+  moment ← number_of 64 m
+  word ← number_of 64 w
+  post_behind moment word a s b
 
 unfoldable pub call_record : List ℕ → List ℕ → List ℕ → List (List ℕ) → Reading
 call_record m w bytes outcomes = do
@@ -224,6 +229,11 @@ record_of_stages name fields =
     else if bytes_eq name (codes "flush") then flush_fields fields
     else if bytes_eq name (codes "shutdown") then shutdown_fields fields
     else record_of_plans name fields
+
+-- a post of these numbers, where the fields behind them are these
+abbrev pub post_by : ℕ → ℕ → Option (List (List ℕ)) → Reading
+post_by moment word (Some (a ∷ s ∷ b ∷ [])) = post_behind moment word a s b
+post_by moment word fields = Err BadRecord
 
 -- the record of these fields, the first of which is its name
 unfoldable pub record_of : List (List ℕ) → Reading

@@ -43,6 +43,7 @@ mod fields;
 mod joining;
 mod opening;
 mod outcomes;
+mod plain;
 mod plans;
 mod play;
 mod printed;

@@ -1,8 +1,9 @@
 // The record of a line.
-ghost use Rattle.std.specs.Prelude.{◌≡◌, [], ◌∷◌, ◌++◌, length, Ok, Err, drop, IfOk, option_map};
+ghost use Rattle.std.specs.Prelude.{◌≡◌, [], ◌∷◌, ◌++◌, length, Ok, Err, Some, drop, IfOk, option_map};
 ghost use Rattle.record_fields.specs.Coding.{text_of};
-ghost use Rattle.play_script.specs.Records.{text_record as text_record_of, api_record as api_record_of, post_record as post_record_of, call_record as call_record_of, call_fields as call_fields_of, text_fields as text_fields_of, api_fields as api_fields_of, post_fields as post_fields_of, record_of as record_of_fields, record_in as record_in_line, numbers_of, keepfails_fields as keepfails_fields_of, keepfails_of as keepfails_of_fields, fails_in as fails_in_line};
+ghost use Rattle.play_script.specs.Records.{text_record as text_record_of, api_record as api_record_of, post_behind as post_behind_of, post_by as post_by_fields, post_record as post_record_of, call_record as call_record_of, call_fields as call_fields_of, text_fields as text_fields_of, api_fields as api_fields_of, post_fields as post_fields_of, record_of as record_of_fields, record_in as record_in_line, numbers_of, keepfails_fields as keepfails_fields_of, keepfails_of as keepfails_of_fields, fails_in as fails_in_line};
 
+use crate::plain::plain_post;
 use crate::records::{LineFault, Reading, Record};
 use crate::stages::record_of_stages;
 use gw_base::{Bytes, Memory, Seq, Text, is_name};
@@ -59,16 +60,10 @@ fn api_record(moment: Bytes, api: Bytes, document: Bytes) -> Reading
     })
 }
 
-#[tactic(auto, unfolding(crate::specs::Records::post_record))]
-fn post_record(moment: Bytes, word: Bytes, api: Bytes, stage: Bytes, body: Bytes) -> Reading
-    ensures { result ≡ post_record_of moment word api stage body }
+#[tactic(auto, unfolding(crate::specs::Records::post_behind))]
+fn post_of(moment: u64, word: u64, api: Bytes, stage: Bytes, body: Bytes) -> Reading
+    ensures { result ≡ post_behind_of moment word api stage body }
 {
-    let Some(moment) = number(moment.as_slice()) else {
-        return Err(LineFault::BadRecord);
-    };
-    let Some(word) = number(word.as_slice()) else {
-        return Err(LineFault::BadRecord);
-    };
     let Some(api) = text_in(api) else {
         return Err(LineFault::BadRecord);
     };
@@ -88,6 +83,19 @@ fn post_record(moment: Bytes, word: Bytes, api: Bytes, stage: Bytes, body: Bytes
         stage,
         body,
     })
+}
+
+#[tactic(auto, unfolding(crate::specs::Records::post_record))]
+fn post_record(moment: Bytes, word: Bytes, api: Bytes, stage: Bytes, body: Bytes) -> Reading
+    ensures { result ≡ post_record_of moment word api stage body }
+{
+    let Some(moment) = number(moment.as_slice()) else {
+        return Err(LineFault::BadRecord);
+    };
+    let Some(word) = number(word.as_slice()) else {
+        return Err(LineFault::BadRecord);
+    };
+    post_of(moment, word, api, stage, body)
 }
 
 #[tactic(auto, unfolding(crate::specs::Records::call_record))]
@@ -195,10 +203,29 @@ fn record_of(alloc: Global, fields: Vec<Bytes>) -> Result<Reading, Memory>
     record_of_stages(alloc, name, rest)
 }
 
+// A post of these numbers, whose other fields are given.
+fn post_by(moment: u64, word: u64, mut fields: Vec<Bytes>) -> Reading
+    ensures { result ≡ post_by_fields moment word (Some fields.items) }
+{
+    let [_, _, _] = fields.as_slice() else {
+        return Err(LineFault::BadRecord);
+    };
+    let body = fields.remove(2);
+    let stage = fields.remove(1);
+    let api = fields.remove(0);
+    post_of(moment, word, api, stage, body)
+}
+
 /// The record of a line, or why it has none.
 pub fn record_in(alloc: Global, line: &[u8]) -> Result<Reading, Memory>
     ensures { IfOk result (λ r. r ≡ record_in_line line.now) }
 {
+    if let Some(post) = plain_post(line) {
+        return match fields_in(alloc, post.fields)? {
+            Some(fields) => Ok(post_by(post.moment, post.word, fields)),
+            None => Ok(Err(LineFault::BadRecord)),
+        };
+    }
     match fields_in(alloc, line)? {
         Some(fields) => record_of(alloc, fields),
         None => Ok(Err(LineFault::BadRecord)),

@@ -1,5 +1,5 @@
 -- Posts that are spelled plainly: their name and their numbers stand for themselves.
-use Rattle.std.proofs.Common.{◌≡◌, ℕ, ◌+◌, ◌^◌, ◌<◌, ◌≤◌, ◌==◌, nat_le, nat_lt, Bool, true, false, not, ◌&&◌, cond, List, [], ◌∷◌, length, All, Option, Some, None, arith, refl, ap, sym, ◌∙◌, codes, subst}
+use Rattle.std.proofs.Common.{◌≡◌, ℕ, ◌^◌, ◌<◌, ◌==◌, nat_le, nat_lt, Bool, true, false, not, ◌&&◌, cond, List, [], ◌∷◌, length, All, Option, Some, None, arith, refl, ap, sym, ◌∙◌, codes, subst}
 use Rattle.std.specs.List.{list_all}
 use Rattle.std.specs.Option.{option_and_then}
 use Rattle.std.specs.Str.{bytes_eq}
@@ -16,7 +16,7 @@ use Rattle.record_fields.specs.Numbers.{is_decimal, number_of, read_on}
 use Rattle.record_fields.specs.Writing.{coded}
 use Rattle.record_fields.specs.declared.coding.TheConstants.{CODED}
 use Rattle.record_fields.proofs.Coded.{decoded_coded}
-use Rattle.play_script.specs.Records.{record_in, record_in_fields, record_of, post_fields, post_record, post_behind, post_by}
+use Rattle.play_script.specs.Records.{record_in, record_in_fields, record_of, post_record, post_by}
 
 decimal_is_kept : agree_below (λ b. is_decimal b && contains CODED b) (λ b. false) 128 ≡ true
 decimal_is_kept = refl

@@ -358,7 +358,11 @@ fn each_write_fails_once(rt: HostRuntime) -> Result<(), Fail> {
     let rows = [
         String::new(alloc),
         format!(in alloc; "done\ndeployed 1\ndone\n{}", answer.as_str())?,
-        format!(in alloc; "done\ndeployed 1\ndone\n{}{}", answer.as_str(), answer.as_str())?,
+        format!(in alloc;
+            "done\ndeployed 1\ndone\n{}{}",
+            answer.as_str(),
+            answer.as_str()
+        )?,
     ];
     for (call, front) in rows.iter().enumerate() {
         let (status, output) = write_failing(&rt, alloc, script.as_str(), call as u32)?;

@@ -237,6 +237,40 @@ fn the_hello_script_is_played_in_pieces(rt: HostRuntime) -> Result<(), Fail> {
     Ok(())
 }
 
+// A post by the hello script's commands, and what it prints: as the script's own does, or that its form is broken.
+#[test]
+fn a_post_may_be_spelled_with_escapes(rt: HostRuntime) -> Result<(), Fail> {
+    let alloc = rt.alloc();
+    let broken = "done\ndeployed 1\ndone\nrefused line 4 BadRecord at ~\n";
+    let rows = [
+        ("post 0 0 hello v1 Ann", HELLO_SAID),
+        ("%70ost 0 0 hello v1 Ann", HELLO_SAID),
+        ("post %30 0 hello v1 Ann", HELLO_SAID),
+        ("post 0 %30 hello v1 Ann", HELLO_SAID),
+        ("post 0 0 h%65llo v%31 %41nn", HELLO_SAID),
+        ("post 0 18446744073709551615 hello v1 Ann", HELLO_SAID),
+        ("post 0 18446744073709551616 hello v1 Ann", broken),
+        ("post 0 0 hello v1", broken),
+        ("post 0 0 hello v1 Ann Ann", broken),
+        ("post 0 0 hello  Ann", broken),
+        ("post 0 0 hello v1 %4", broken),
+        ("post 0 0 hello v1 %FF", broken),
+        ("post x 0 hello v1 Ann", broken),
+        ("post ~ 0 hello v1 Ann", broken),
+        ("post 0 0 hel/lo v1 Ann", broken),
+        ("post 0 0", broken),
+        ("post", broken),
+    ];
+    for (post, said) in rows {
+        let script = format!(in alloc;
+            "text 0 hello Hi%20$input.body!\ndeploy 0 hello\nstage 0 hello v1 1\n{post}\n"
+        )?;
+        let (_, output) = told(&rt, alloc, script.as_str())?;
+        assert_eq!(rt; output.bytes(), said.as_bytes());
+    }
+    Ok(())
+}
+
 #[test]
 fn an_unknown_stage_is_told(rt: HostRuntime) -> Result<(), Fail> {
     let alloc = rt.alloc();

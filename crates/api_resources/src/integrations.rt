@@ -20,7 +20,7 @@ use api_reading::values::{
 use api_reading::{bad_mapping, read_templates, waits};
 use gw_base::{Memory, Seq, Text};
 use json_subset::{Doc, NodeId};
-use status_table::StatusTables;
+use pattern_tables::StatusTables;
 use std::alloc::Global;
 use vtl_reader::Template;
 

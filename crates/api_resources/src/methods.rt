@@ -16,7 +16,7 @@ use api_reading::values::{
 use api_reading::{bad_mapping, waits};
 use gw_base::{Seq, Text};
 use json_subset::{Doc, NodeId};
-use status_table::StatusTables;
+use pattern_tables::StatusTables;
 use std::alloc::Global;
 
 /// What is read of a method so far.

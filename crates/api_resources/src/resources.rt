@@ -13,8 +13,8 @@ use api_reading::values::{bad_member, copy, fault_here, member_at, object, unkno
 use api_reading::waits;
 use gw_base::{Seq, Text};
 use json_subset::{Doc, NodeId};
+use pattern_tables::StatusTables;
 use resource_tree::{Tree, TreeFault};
-use status_table::StatusTables;
 use std::alloc::Global;
 
 /// The most resources of an API.

@@ -13,7 +13,8 @@ use api_reading::values::{
 use api_reading::{pattern, read_templates, waits};
 use gw_base::{Seq, Shared, Text};
 use json_subset::{Doc, NodeId};
-use status_table::{StatusTable, StatusTables};
+use pattern_tables::StatusTables;
+use status_table::StatusTable;
 use std::alloc::Global;
 use vtl_reader::Template;
 

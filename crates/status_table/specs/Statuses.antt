@@ -1,7 +1,5 @@
 -- The statuses that a pattern takes.
-use Rattle.std.specs.Prelude.{◌≡◌, ℕ, ◌+◌, ◌<◌, ◌&&◌, Bool, true, false, List, get_or, length, IfSome, String}
-use Rattle.std.specs.BTreeMap.{BTreeMap, get_by_text}
-use Rattle.std.specs.declared.alloc.Global.{Global}
+use Rattle.std.specs.Prelude.{◌≡◌, ℕ, ◌+◌, ◌<◌, ◌&&◌, Bool, false, List, get_or, length}
 use Rattle.std.specs.Fmt.{decimal}
 use Rattle.pattern_core.specs.Search.{anchored, is_pattern, matches_whole}
 
@@ -17,7 +15,3 @@ takes pattern status = matches_whole pattern (decimal status)
 pub record AreAnswers (pattern : List ℕ) (count : ℕ) (answers : List Bool) : Type 0 where
   pub all : length answers ≡ count
   pub each : (n : ℕ) → n < count → get_or answers n false ≡ takes pattern (100 + n)
-
--- each table that is kept is the one of its pattern, which can match whole texts
-abbrev pub AreOfPatterns : BTreeMap (String Global) (List ℕ) → Type 0
-AreOfPatterns tables = (pattern : List ℕ) → IfSome (get_by_text tables pattern) (λ table. (table ≡ pattern) × (is_whole_pattern pattern ≡ true))

@@ -3,10 +3,6 @@
 //! ```text
 //! let table = StatusTable::build(alloc, "2\\d\\d")?;   // Err(BadPattern) where the text is no pattern
 //! table.holds(201)                                     // true, with no memory
-//!
-//! let mut tables = StatusTables::new(alloc);           // the patterns of one document
-//! let first = tables.table(alloc, "2..")?;
-//! let second = tables.table(alloc, "2..")?;            // the same table, shared: the pattern is read once
 //! ```
 //!
 //! | Pattern | Status | Answer |
@@ -25,8 +21,6 @@
 #![tactic(auto)]
 
 mod table;
-mod tables;
 
 pub use pattern_core::PatternFault;
 pub use table::{StatusTable, anchored};
-pub use tables::StatusTables;

@@ -4,8 +4,8 @@ use Rattle.std.specs.Str.{bytes_eq}
 use Rattle.std.specs.String.{string_bytes}
 use Rattle.std.specs.BTreeMap.{get_by_text}
 use Rattle.std.proofs.lemmas.Map.Text.{btree_map_updates_text}
-use Rattle.status_table.proofs.Kept.{kept_more}
-use Rattle.status_table.proofs.tables.insert_table.Goals as goal
+use Rattle.pattern_tables.proofs.Kept.{kept_more}
+use Rattle.pattern_tables.proofs.tables.insert_table.Goals as goal
 
 pub returns : goal.returns
 returns c =

@@ -1,7 +1,7 @@
 use Rattle.std.proofs.Common.{◌≡◌, ℕ, List, Some, IfSome, true, subst, ◌∙◌, rules}
 use Rattle.std.specs.BTreeMap.{get_by_text}
 use Rattle.status_table.specs.Statuses.{is_whole_pattern}
-use Rattle.status_table.proofs.tables.StatusTables.known.Goals as goal
+use Rattle.pattern_tables.proofs.tables.StatusTables.known.Goals as goal
 
 pub returns-in_ok-share-in-Some-clause-table : goal.returns-in_ok-share-in-Some-clause-table
 returns-in_ok-share-in-Some-clause-table c =

@@ -6,7 +6,8 @@ use Rattle.std.specs.Map.{update}
 use Rattle.std.specs.Str.{bytes_eq}
 use Rattle.std.specs.declared.alloc.Global.{Global}
 use Rattle.std.proofs.lemmas.Slice.Eq.{bytes_eq-Decides}
-use Rattle.status_table.specs.Statuses.{is_whole_pattern, AreOfPatterns}
+use Rattle.pattern_tables.specs.Keeping.{AreOfPatterns}
+use Rattle.status_table.specs.Statuses.{is_whole_pattern}
 
 pub kept_more : (old new : BTreeMap (String Global) (List ℕ)) (p : List ℕ) → AreOfPatterns old → is_whole_pattern p ≡ true
     → ((q : List ℕ) → get_by_text new q ≡ update bytes_eq (get_by_text old) p (Some p) q) → AreOfPatterns new

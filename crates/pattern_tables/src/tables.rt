@@ -1,11 +1,11 @@
 // The tables of the patterns of one document, each pattern read once.
 ghost use Rattle.std.specs.Prelude.{◌≡◌, true, false, IfErr, IfOk, OnOk, IfSome};
 ghost use Rattle.std.specs.String.{string_bytes};
-ghost use Rattle.status_table.specs.Statuses.{AreOfPatterns, is_whole_pattern};
+ghost use Rattle.pattern_tables.specs.Keeping.{AreOfPatterns};
+ghost use Rattle.status_table.specs.Statuses.{is_whole_pattern};
 
-use crate::table::StatusTable;
 use gw_base::{Memory, Shared};
-use pattern_core::PatternFault;
+use status_table::{PatternFault, StatusTable};
 use std::alloc::Global;
 use std::collections::BTreeMap;
 use std::marker::Model;
@@ -18,7 +18,7 @@ pub struct StatusTables {
 }
 
 impl Model for StatusTables {
-    ghost use Rattle.status_table.specs.Statuses.{AreOfPatterns};
+    ghost use Rattle.pattern_tables.specs.Keeping.{AreOfPatterns};
 
     ghost Value = { Unit {0} };
 

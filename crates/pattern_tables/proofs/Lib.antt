@@ -1,0 +1,2 @@
+-- one table more among those that are kept
+pub mod Kept

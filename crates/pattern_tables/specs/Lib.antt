@@ -1,0 +1,2 @@
+-- the tables that are kept
+pub mod Keeping

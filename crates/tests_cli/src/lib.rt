@@ -2,7 +2,8 @@
 //!
 //! | Module | Shows |
 //! |---|---|
-//! | `scripts` | every kind of line, pieces of any size, each read and each write failing once, a full session |
+//! | `scripts` | every kind of line, pieces of any size, a full session |
+//! | `failing` | each read and each write failing once, and which fault is told |
 //! | `calls` | connections with several messages, and outcomes |
 //! | `documents` | scripts that put documents: what they print, and where one is refused; which resource a path finds, and what a call is checked by |
 //! | `roots` | the values below the roots, as the documents show them |
@@ -13,6 +14,8 @@
 mod calls;
 #[cfg(test)]
 mod documents;
+#[cfg(test)]
+mod failing;
 #[cfg(test)]
 mod outsides;
 #[cfg(test)]

@@ -13,7 +13,8 @@ use Rattle.json_subset.specs.declared.doc.Kind.TheVariants as kinds
 use Rattle.json_subset.specs.Bare.{bare}
 use Rattle.json_values.specs.Parts.{trees_in}
 use Rattle.pattern_core.specs.Search.{is_pattern}
-use Rattle.schema_keywords.specs.Keywords.{Test, type, required, minimum, maximum, multiple_of, min_length, max_length, pattern, enum, min_items, max_items, unique_items, min_properties, max_properties, are_distinct}
+use Rattle.json_distinct.specs.Distinct.{are_distinct}
+use Rattle.schema_keywords.specs.Keywords.{Test, type, required, minimum, maximum, multiple_of, min_length, max_length, pattern, enum, min_items, max_items, unique_items, min_properties, max_properties}
 use Rattle.schema_keywords.specs.declared.keyword.TypeName.{TypeName}
 use Rattle.schema_rules.specs.Rules.{Others, refused, by, Rule, test, properties, additional_properties, items, items_each, additional_items, all_of, any_of, one_of, negated, defines, refer}
 use Rattle.schema_rules.specs.Verdict.{place_of}

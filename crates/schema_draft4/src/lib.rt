@@ -23,7 +23,8 @@
 //!
 //! How it is built, not promised: a schema is numbered nodes, and references go by number. A check costs at most one
 //! verdict for each schema and each part of the value, schemas of one value lowest first, so that its recursion is as deep
-//! as the value, whatever the schema. `uniqueItems` and `enum` compare pair by pair.
+//! as the value, whatever the schema. `uniqueItems` looks each item up among the others; `enum` compares a value with each
+//! of its own.
 //!
 //! Left out: `patternProperties`, `dependencies`, references to other documents, bounds with a fraction; `format` is
 //! ignored. No clause says that want of memory is never answered in place of a schema; tests show it.

@@ -18,9 +18,10 @@ ghost use Rattle.schema_keywords.specs.Views.{test_of, IsSoundTest};
 use crate::look::{is_sharp, item_of, list_len, size_at, text_at, whole_at};
 use crate::word::{Word, type_of};
 use gw_base::Memory;
+use json_distinct::are_distinct;
 use json_subset::{Doc, Kind, NodeId};
 use json_values::{Form, Value, read_part, value_at};
-use schema_keywords::{Test, TypeName, are_distinct};
+use schema_keywords::{Test, TypeName};
 use schema_rules::{Names, is_named, no_names, push_name};
 use std::alloc::Global;
 
@@ -168,7 +169,7 @@ fn read_values(alloc: Global, doc: &Doc, id: NodeId, count: u32) -> Result<Optio
     ensures sound { IfOk result (λ o. IfSome o IsSoundTest) }
 {
     let (values, ids) = read_list(alloc, doc, id, count)?;
-    if ids.is_empty() || !are_distinct(&values, &ids) {
+    if ids.is_empty() || !are_distinct(alloc, &values, &ids)? {
         Ok(None)
     } else {
         Ok(Some(Test::Enum(values, ids)))

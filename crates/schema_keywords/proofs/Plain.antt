@@ -6,7 +6,8 @@ use Rattle.json_subset.specs.Documents.{form, first_named, count}
 use Rattle.json_values.specs.Same.{same, same_form}
 use Rattle.json_subset.specs.Bare.{bare, bare_form, bare_trees, bare_members}
 use Rattle.json_values.proofs.Plain.{same_plain, same_plain_left_form, plain_named, plain_count}
-use Rattle.schema_keywords.specs.Keywords.{Test, type, required, minimum, maximum, multiple_of, min_length, max_length, pattern, enum, min_items, max_items, unique_items, min_properties, max_properties, is_of, is_any, is_among, is_in, are_distinct, has_all, meets}
+use Rattle.json_distinct.specs.Distinct.{is_in, are_distinct}
+use Rattle.schema_keywords.specs.Keywords.{Test, type, required, minimum, maximum, multiple_of, min_length, max_length, pattern, enum, min_items, max_items, unique_items, min_properties, max_properties, is_of, is_any, is_among, has_all, meets}
 use Rattle.schema_keywords.specs.declared.keyword.TypeName.{TypeName}
 use Rattle.schema_keywords.specs.declared.keyword.TypeName.TheVariants as names
 

@@ -2,10 +2,11 @@
 -- A keyword about another type than the value's is met.
 use Rattle.std.specs.Prelude.{ℕ, ℤ, ◌%◌, Bool, true, false, List, [], ◌∷◌, length, is_some, nat_le, ◌==◌, if◌then◌else◌, unsigned_abs}
 use Rattle.std.specs.Str.{chars}
-use Rattle.json_subset.specs.Tree.{Tree, Form, null, bool, number, text, list, object, Trees, no_trees, tree, Members, Number, whole, decimal, wide}
+use Rattle.json_subset.specs.Tree.{Tree, Form, null, bool, number, text, list, object, Trees, Members, Number, whole, decimal, wide}
 use Rattle.json_subset.specs.Documents.{form, first_named, count, count_members}
 use Rattle.json_values.specs.Amounts.{amount, at_least, at_most}
-use Rattle.json_values.specs.Same.{same, same_form}
+use Rattle.json_values.specs.Same.{same_form}
+use Rattle.json_distinct.specs.Distinct.{are_distinct}
 use Rattle.pattern_core.specs.Search.{matches}
 use Rattle.schema_keywords.specs.declared.keyword.Keyword.{Keyword}
 use Rattle.schema_keywords.specs.declared.keyword.Keyword.TheVariants as by
@@ -110,15 +111,6 @@ is_multiple n wide = false
 abbrev pub is_among : Form → List Tree → Bool
 is_among f [] = false
 is_among f (t ∷ ts) = if same_form f (form t) then true else is_among f ts
-
-abbrev pub is_in : Tree → Trees → Bool
-is_in t no_trees = false
-is_in t (tree u us) = if same t u then true else is_in t us
-
--- no two are the same
-abbrev pub are_distinct : Trees → Bool
-are_distinct no_trees = true
-are_distinct (tree t ts) = if is_in t ts then false else are_distinct ts
 
 -- whether a value of this form meets the keyword
 abbrev pub meets : Form → Test → Bool

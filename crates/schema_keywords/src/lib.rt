@@ -18,4 +18,4 @@ mod keyword;
 mod meets;
 
 pub use keyword::{Keyword, Test, TypeName};
-pub use meets::{are_distinct, is_met, keyword_of};
+pub use meets::{is_met, keyword_of};

@@ -8,11 +8,13 @@ ghost use Rattle.json_subset.specs.Nodes.{member_at, AllBelow, AllValuesBelow};
 ghost use Rattle.json_values.specs.Amounts as amounts;
 ghost use Rattle.json_values.specs.Values.{AreSound, IsBelow, IsReady, IsIndexed, IsNumberMeasured, form_of, number_view, plain_of};
 ghost use Rattle.pattern_core.specs.Search.{matches};
+ghost use Rattle.json_distinct.specs.Distinct.{are_distinct as are_distinct_trees};
 ghost use Rattle.schema_keywords.specs.Keywords as says;
 ghost use Rattle.schema_keywords.specs.Views.{test_of, IsSoundTest};
 
 use crate::keyword::{Keyword, Test, TypeName};
 use gw_base::Memory;
+use json_distinct::are_distinct;
 use json_values::{
     Amount, Form, Members, Number, Value, at_least, at_most, is_multiple, named, same_value,
     value_at,
@@ -168,41 +170,6 @@ fn is_among(values: &[Value], k: usize, entries: &[Value], ids: &[usize]) -> boo
     false
 }
 
-// Whether a value is the same as one of these.
-fn is_in(values: &[Value], k: usize, ids: &[usize]) -> bool
-    requires sound { AreSound values.now }
-    requires stands { k < length values.now }
-    requires below { AllBelow (length values.now) ids.now }
-    ensures { result ≡ says.is_in (plain_of values.now k) (trees_of (map (plain_of values.now) ids.now)) }
-{
-    for id in ids {
-        if same_value(values, k, values, *id) {
-            return true;
-        }
-    }
-    false
-}
-
-/// Whether no two of these are the same; compares pair by pair.
-pub fn are_distinct(values: &[Value], ids: &[usize]) -> bool
-    requires sound { AreSound values.now }
-    requires below { AllBelow (length values.now) ids.now }
-    ensures { result ≡ says.are_distinct (trees_of (map (plain_of values.now) ids.now)) }
-{
-    let mut ids = ids;
-    loop {
-        match ids {
-            [] => return true,
-            [id, more @ ..] => {
-                if is_in(values, *id, more) {
-                    return false;
-                }
-                ids = more;
-            }
-        }
-    }
-}
-
 // Whether an object has each of these names.
 fn has_all(values: &[Value], k: usize, members: &Members, names: &[String]) -> bool
     requires below { AllValuesBelow k members.now.list.items }
@@ -237,26 +204,38 @@ fn meets_required(values: &[Value], k: usize, form: &Form, names: &[String]) -> 
     }
 }
 
-fn meets_unique_items(values: &[Value], k: usize, form: &Form) -> bool
+fn meets_unique_items(
+    alloc: Global,
+    values: &[Value],
+    k: usize,
+    form: &Form,
+) -> Result<bool, Memory>
     requires sound { AreSound values.now }
     requires stands { k < length values.now }
     requires below { IsBelow k form.now }
-    ensures { result ≡ says.if_list says.are_distinct (form_of (plain_of values.now) form.now) }
+    ensures { IfOk result (λ b. b ≡ says.if_list are_distinct_trees (form_of (plain_of values.now) form.now)) }
 {
     match form {
-        Form::List(ids) => are_distinct_below(values, k, ids),
-        Form::Null | Form::Bool(_) | Form::Number(_, _) | Form::Text(_) | Form::Object(_) => true,
+        Form::List(ids) => are_distinct_below(alloc, values, k, ids),
+        Form::Null | Form::Bool(_) | Form::Number(_, _) | Form::Text(_) | Form::Object(_) => Ok(
+            true,
+        ),
     }
 }
 
-/// Whether no two of these are the same; compares pair by pair.
-fn are_distinct_below(values: &[Value], k: usize, ids: &[usize]) -> bool
+// Whether no two of the parts of a value are the same.
+fn are_distinct_below(
+    alloc: Global,
+    values: &[Value],
+    k: usize,
+    ids: &[usize],
+) -> Result<bool, Memory>
     requires sound { AreSound values.now }
     requires stands { k < length values.now }
     requires below { AllBelow k ids.now }
-    ensures { result ≡ says.are_distinct (trees_of (map (plain_of values.now) ids.now)) }
+    ensures { IfOk result (λ b. b ≡ are_distinct_trees (trees_of (map (plain_of values.now) ids.now))) }
 {
-    are_distinct(values, ids)
+    are_distinct(alloc, values, ids)
 }
 
 // How many items a list has; at most `u64::MAX`.
@@ -308,8 +287,8 @@ fn meets_max_properties(values: &[Value], form: &Form, limit: u64) -> bool
     }
 }
 
-/// Whether the value of this number meets the keyword. Linear in the value and the keyword, but `uniqueItems` and
-/// `enum` compare pair by pair.
+/// Whether the value of this number meets the keyword. Linear in the value and the keyword; `uniqueItems` takes the
+/// logarithm of the items besides, and `enum` compares the value with each of its own.
 pub fn is_met(alloc: Global, values: &[Value], k: usize, test: &Test) -> Result<bool, Memory>
     requires sound { AreSound values.now }
     requires stands { k < length values.now }
@@ -329,7 +308,7 @@ pub fn is_met(alloc: Global, values: &[Value], k: usize, test: &Test) -> Result<
         Test::Enum(entries, ids) => Ok(is_among(values, k, entries, ids)),
         Test::MinItems(limit) => Ok(meets_min_items(values, form, *limit)),
         Test::MaxItems(limit) => Ok(meets_max_items(values, form, *limit)),
-        Test::UniqueItems => Ok(meets_unique_items(values, k, form)),
+        Test::UniqueItems => meets_unique_items(alloc, values, k, form),
         Test::MinProperties(limit) => Ok(meets_min_properties(values, form, *limit)),
         Test::MaxProperties(limit) => Ok(meets_max_properties(values, form, *limit)),
     }

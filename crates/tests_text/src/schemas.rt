@@ -330,3 +330,57 @@ fn doubling_definitions_are_checked_at_once(rt: HostRuntime) -> Result<(), Fail>
     assert_eq!(rt; above.as_str(), "valid");
     Ok(())
 }
+
+// A list of many values of each kind, no two of them the same, and this one behind them.
+fn many_and(alloc: Global, last: &str) -> Result<String, AllocError> {
+    let mut text = String::from_str(alloc, "[null,true,false,")?;
+    for k in 0..20 {
+        let some = format!(in alloc; "{k},{k}.5,\"{k}\",[{k}],{{\"k\":{k},\"l\":[{k}]}},")?;
+        text.push_str(some.as_str())?;
+    }
+    text.push_str(last)?;
+    text.push(']')?;
+    Ok(text)
+}
+
+// The last of many values, and whether it is the same as another.
+const LAST: [(&str, bool); 22] = [
+    ("20", false),
+    ("19", true),
+    ("-0", true),
+    ("-7", false),
+    ("7.5", true),
+    ("7.50", false),
+    ("7e0", false),
+    ("\"7\"", true),
+    ("\"\\u0037\"", true),
+    ("\"null\"", false),
+    ("null", true),
+    ("false", true),
+    ("[7]", true),
+    ("[7,7]", false),
+    ("[[7]]", false),
+    ("[]", false),
+    ("{\"k\":7,\"l\":[7]}", true),
+    ("{\"l\":[7],\"k\":7}", true),
+    ("{\"l\":[7],\"k\":8}", false),
+    ("{\"k\":[7],\"l\":7}", false),
+    ("{\"k\":7}", false),
+    ("{}", false),
+];
+
+#[test]
+fn one_of_many_values_is_told_apart(rt: HostRuntime) -> Result<(), Fail> {
+    let alloc = rt.alloc();
+    for (last, stands) in &LAST {
+        let many = many_and(alloc, last)?;
+        let unique = answer(alloc, "{\"uniqueItems\":true}", many.as_str())?;
+        let want = if *stands { "UniqueItems" } else { "valid" };
+        assert_eq!(rt; unique.as_str(), want, "at {last}");
+        let schema = format!(in alloc; "{{\"enum\":{}}}", many.as_str())?;
+        let listed = answer(alloc, schema.as_str(), "19")?;
+        let want = if *stands { "BadKeyword" } else { "valid" };
+        assert_eq!(rt; listed.as_str(), want, "at {last}");
+    }
+    Ok(())
+}

@@ -2,8 +2,8 @@ use Rattle.std.proofs.Common.{◌≡◌, length, drop, map}
 use Rattle.json_subset.specs.Tree.{trees_of}
 use Rattle.json_subset.specs.Nodes.{AllBelow}
 use Rattle.json_values.specs.Values.{plain_of}
-use Rattle.schema_keywords.specs.Keywords as says
-use Rattle.schema_keywords.proofs.meets.is_in.Given as goal
+use Rattle.json_distinct.specs.Distinct as says
+use Rattle.json_distinct.proofs.pairs.is_in.Given as goal
 
 abbrev pub invariant-loop-id : goal.invariant-loop-id
 invariant-loop-id l = record {

@@ -2,8 +2,8 @@ use Rattle.std.proofs.Common.{◌≡◌, length, map}
 use Rattle.json_subset.specs.Tree.{trees_of}
 use Rattle.json_subset.specs.Nodes.{AllBelow}
 use Rattle.json_values.specs.Values.{plain_of}
-use Rattle.schema_keywords.specs.Keywords as says
-use Rattle.schema_keywords.proofs.meets.are_distinct.Given as goal
+use Rattle.json_distinct.specs.Distinct as says
+use Rattle.json_distinct.proofs.pairs.are_distinct_by_pairs.Given as goal
 
 abbrev pub decreases-loop-ids : goal.decreases-loop-ids
 decreases-loop-ids l = length l.ids

@@ -5,7 +5,7 @@ use Rattle.std.specs.Io.KnownBytes.{Appends}
 use Rattle.std.proofs.KnownBytes.{Appends-nil, Appends-trans}
 use Rattle.book_rules.specs.declared.events.Entry.{Entry}
 use Rattle.book_rules.specs.History.{Base}
-use Rattle.play_script.specs.Coding.{lines_left}
+use Rattle.script_records.specs.Coding.{lines_left}
 use Rattle.play_script.specs.Play.{Turn, IsFront, SaysFront, status_at}
 use Rattle.play_script.specs.declared.turns.End.{End}
 use Rattle.admin_command.specs.Administering.{Administers, CarriedOut, Came, before, IsTurn, GoesOn}

@@ -4,7 +4,7 @@ use Rattle.book_rules.specs.History.{Base, is_full, reply}
 use Rattle.book_rules.specs.declared.events.Entry.{Entry}
 use Rattle.book_rules.specs.declared.events.Event.{Event}
 use Rattle.book_rules.specs.declared.replies.Reply.{Reply}
-use Rattle.play_script.specs.Coding.{is_passed_over}
+use Rattle.script_records.specs.Coding.{is_passed_over}
 use Rattle.play_script.specs.Play.{Turn}
 use Rattle.play_script.specs.Printed.{reply_line}
 use Rattle.play_script.specs.declared.turns.End.{End}

@@ -6,7 +6,7 @@ use Rattle.book_rules.specs.declared.events.Event.{Event}
 use Rattle.book_rules.specs.declared.events.Event.TheVariants.{Admin}
 use Rattle.book_rules.specs.declared.replies.Reply.{Reply}
 use Rattle.gate_walk.specs.Told.{numbers_of}
-use Rattle.play_script.specs.Coding.{is_passed_over}
+use Rattle.script_records.specs.Coding.{is_passed_over}
 use Rattle.play_script.specs.Play.{Turn, refused, status_at, IsFront}
 use Rattle.play_script.specs.Printed.{reply_line, full_line}
 use Rattle.play_script.specs.declared.turns.End.{End}

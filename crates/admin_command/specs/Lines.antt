@@ -3,12 +3,12 @@ use Rattle.std.specs.Prelude.{ℕ, List, Result, Ok, Err}
 use Rattle.api_model.specs.Definition.{document, text}
 use Rattle.book_rules.specs.declared.events.Command.{Command}
 use Rattle.book_rules.specs.declared.events.Command.TheVariants as command
-use Rattle.play_script.specs.Definitions.{Taken, taken}
-use Rattle.play_script.specs.Records.{record_in}
-use Rattle.play_script.specs.declared.records.LineFault.{LineFault}
-use Rattle.play_script.specs.declared.records.LineFault.TheVariants.{BadRecord}
-use Rattle.play_script.specs.declared.records.Record.{Record}
-use Rattle.play_script.specs.declared.records.Record.TheVariants.{PutText, PutDocument, Ask, Post, Call}
+use Rattle.script_records.specs.Definitions.{Taken, taken}
+use Rattle.script_records.specs.Records.{record_in}
+use Rattle.script_records.specs.declared.records.LineFault.{LineFault}
+use Rattle.script_records.specs.declared.records.LineFault.TheVariants.{BadRecord}
+use Rattle.script_records.specs.declared.records.Record.{Record}
+use Rattle.script_records.specs.declared.records.Record.TheVariants.{PutText, PutDocument, Ask, Post, Call}
 use Rattle.admin_command.specs.declared.orders.Order.{Order}
 
 -- a command at its moment, or why the line has none

@@ -3,7 +3,7 @@ ghost use Rattle.std.specs.Prelude.{◌≡◌, ◌⊎◌, ◌<◌, ◌^◌, ℕ,
 ghost use Rattle.std.specs.Io.KnownBytes.{Appends};
 ghost use Rattle.book_rules.specs.declared.events.Event.TheVariants.{Admin};
 ghost use Rattle.gw_base.specs.Outside.{HasWriteCause};
-ghost use Rattle.play_script.specs.Coding.{lines_of};
+ghost use Rattle.script_records.specs.Coding.{lines_of};
 ghost use Rattle.play_script.specs.Play.{Turn, IsFront, SaysFront, status_at, is_command_status};
 ghost use Rattle.admin_command.specs.Administering.{IsTaken, IsFull, IsTurn, Administers, CarriedOut, Came};
 
@@ -14,7 +14,8 @@ use book_rules::Event;
 use gate_walk::SessionFull;
 use gw_base::{Memory, Sink, Text, WriteStop, write_all};
 use keeper_core::Keeper;
-use play_script::{End, Said, first_line, full_line, is_passed_over, refuse, reply_line};
+use play_script::{End, Said, full_line, refuse, reply_line};
+use script_records::{first_line, is_passed_over};
 use std::alloc::Global;
 
 fn status(end: End) -> u8

@@ -1,7 +1,7 @@
 // The command.
 ghost use Rattle.std.specs.Prelude.{◌≡◌, ◌≢◌, ◌<◌, ◌^◌, Err, IfOk, IsErrOf, length, true};
 ghost use Rattle.gw_base.specs.Outside.{Rose};
-ghost use Rattle.play_script.specs.Coding.{lines_of};
+ghost use Rattle.script_records.specs.Coding.{lines_of};
 ghost use Rattle.play_script.specs.Play.{is_command_status};
 ghost use Rattle.serve_command.specs.Serving.{NotHeld};
 ghost use Rattle.serve_command.specs.Shelves.{Shelves, AllIsBack};

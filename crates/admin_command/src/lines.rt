@@ -6,7 +6,7 @@ use crate::orders::Order;
 use api_model::Api;
 use book_rules::Command;
 use gw_base::{Memory, Shared, Text};
-use play_script::{LineFault, Record, record_in, take_document, take_text};
+use script_records::{LineFault, Record, record_in, take_document, take_text};
 use std::alloc::Global;
 
 /// A command at its moment, or why the line has none.

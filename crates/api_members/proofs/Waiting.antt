@@ -8,15 +8,15 @@ use Rattle.api_parts.specs.declared.fault.ApiFault.{ApiFault}
 use Rattle.gw_base.specs.Names.{is_token}
 use Rattle.api_members.specs.Authorizers.{header_waiting}
 
--- what waits behind a fault, by whether the header is a token
-abbrev pub Waits : Result Waiting ApiFault → Waiting → Waiting → Type 0
-Waits r before later = MatchResult r (λ w. w ≡ first_of before later) (λ e. e.cause ≡ Memory)
+-- what is kept after a fault, by whether the header is a token
+abbrev pub Defers : Result (Unit {0}) ApiFault → Waiting → Waiting → Waiting → Type 0
+Defers r new before later = MatchResult r (λ _. new ≡ first_of before later) (λ e. e.cause ≡ Memory)
 
 abbrev by_test : Text → Bool → Waiting
 by_test name t = if t then None else Some (fault_below name (here BadMapping))
 
-pub token_waits : (r : Result Waiting ApiFault) (before : Waiting) (name h : Text) (b : Bool) → b ≡ is_token h → b ≡ true → Waits r before None → Waits r before (header_waiting name h)
-token_waits r before name h b is e w = subst (λ t. Waits r before (by_test name t)) (sym (sym is ∙ e)) w
+pub token_defers : (r : Result (Unit {0}) ApiFault) (new before : Waiting) (name h : Text) (b : Bool) → b ≡ is_token h → b ≡ true → Defers r new before None → Defers r new before (header_waiting name h)
+token_defers r new before name h b is e w = subst (λ t. Defers r new before (by_test name t)) (sym (sym is ∙ e)) w
 
-pub other_waits : (r : Result Waiting ApiFault) (before : Waiting) (name h : Text) (b : Bool) → b ≡ is_token h → b ≡ false → Waits r before (Some (fault_below name (here BadMapping))) → Waits r before (header_waiting name h)
-other_waits r before name h b is e w = subst (λ t. Waits r before (by_test name t)) (sym (sym is ∙ e)) w
+pub other_defers : (r : Result (Unit {0}) ApiFault) (new before : Waiting) (name h : Text) (b : Bool) → b ≡ is_token h → b ≡ false → Defers r new before (Some (fault_below name (here BadMapping))) → Defers r new before (header_waiting name h)
+other_defers r new before name h b is e w = subst (λ t. Defers r new before (by_test name t)) (sym (sym is ∙ e)) w

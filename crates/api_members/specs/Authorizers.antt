@@ -21,9 +21,12 @@ header_waiting name h = if is_token h then None else Some (fault_below name (her
 abbrev pub plain_uri : Text → Read Text
 plain_uri u = if is_plain_uri u then Ok u else Err (here BadUri)
 
+abbrev pub with_header : AuthorizerRead → Text → Text → AuthorizerRead
+with_header a x h = record a { header = Some h; waiting = first_of a.waiting (header_waiting x h) }
+
 abbrev pub authorizer_member : AuthorizerRead → Text → Tree → Read AuthorizerRead
 authorizer_member a x t =
-    if bytes_eq x (codes "header") then (text_in x t >>= λ h. Ok (record a { header = Some h; waiting = first_of a.waiting (header_waiting x h) }))
+    if bytes_eq x (codes "header") then (text_in x t >>= λ h. Ok (with_header a x h))
     else if bytes_eq x (codes "pattern") then (pattern_in x t >>= λ p. Ok (record a { pattern = Some p; whole = Some (anchored p) }))
     else if bytes_eq x (codes "uri") then (text_in x t >>= λ u. plain_uri u >>= λ u. Ok (record a { uri = Some u }))
     else if bytes_eq x (codes "ttl") then (number_in 0 3600 x t >>= λ n. Ok (record a { ttl = n }))

@@ -1,7 +1,7 @@
 // Authorizers.
 ghost use Rattle.std.specs.Prelude.{◌≡◌, MatchResult};
 ghost use Rattle.json_subset.specs.Documents.{IsPart, part};
-ghost use Rattle.api_parts.specs.Reading.{Reads, first_of};
+ghost use Rattle.api_parts.specs.Reading.{Reads, ReadsAs, first_of};
 ghost use Rattle.api_members.specs.Authorizers as says;
 
 use api_mappings::is_plain;
@@ -9,7 +9,7 @@ use api_parts::{ApiCause, ApiFault, Authorizer, TokenAuthorizer, below, no_memor
 use api_reading::values::{
     copy, fault_here, member_at, missing_member, number, object, text, unknown_member,
 };
-use api_reading::{bad_mapping, token_pattern, waits};
+use api_reading::{defer, defer_bad_mapping, token_pattern};
 use gw_base::{Seq, Text, is_name, is_token};
 use json_subset::{Doc, NodeId};
 use pattern_core::Pattern;
@@ -34,18 +34,18 @@ pub struct AuthorizersRead {
     pub waiting: Option<ApiFault>,
 }
 
-fn header_waits(
+fn defer_header(
     alloc: Global,
-    before: Option<ApiFault>,
+    waiting: &mut Option<ApiFault>,
     name: &str,
     header: &str,
-) -> Result<Option<ApiFault>, ApiFault>
-    ensures { MatchResult result (λ w. w ≡ first_of before (says.header_waiting name.now header.now)) (λ e. e.cause ≡ ApiCause.Memory) }
+) -> Result<(), ApiFault>
+    ensures { MatchResult result (λ _. waiting.new ≡ first_of waiting.old (says.header_waiting name.now header.now)) (λ e. e.cause ≡ ApiCause.Memory) }
 {
     if is_token(header) {
-        waits(alloc, before, name, None)
+        defer(alloc, waiting, name, None)
     } else {
-        bad_mapping(alloc, before, name)
+        defer_bad_mapping(alloc, waiting, name)
     }
 }
 
@@ -59,48 +59,51 @@ fn plain_uri(alloc: Global, text: Text) -> Result<Text, ApiFault>
     }
 }
 
+fn add_header(
+    alloc: Global,
+    read: &mut AuthorizerRead,
+    name: &str,
+    header: Text,
+) -> Result<(), ApiFault>
+    ensures { MatchResult result (λ _. read.new ≡ says.with_header read.old name.now header) (λ e. e.cause ≡ ApiCause.Memory) }
+{
+    defer_header(alloc, &mut read.waiting, name, header.as_str())?;
+    read.header = Some(header);
+    Ok(())
+}
+
 fn add_member(
     alloc: Global,
     doc: &Doc,
-    read: AuthorizerRead,
+    read: &mut AuthorizerRead,
     name: &str,
     id: NodeId,
-) -> Result<AuthorizerRead, ApiFault>
+) -> Result<(), ApiFault>
     requires { IsPart doc.now id }
-    ensures { Reads (says.authorizer_member read name.now (part doc.now id)) result }
+    ensures { ReadsAs (λ (_ : Unit {0}). read.new) (says.authorizer_member read.old name.now (part doc.now id)) result }
 {
     if name == "header" {
         let header = text(alloc, doc, name, id)?;
-        let waiting = header_waits(alloc, read.waiting, name, header.as_str())?;
-        return Ok(AuthorizerRead {
-            header: Some(header),
-            waiting,
-            ..read
-        });
+        return add_header(alloc, read, name, header);
     }
     if name == "pattern" {
         let (pattern, whole) = token_pattern(alloc, doc, name, id)?;
-        return Ok(AuthorizerRead {
-            pattern: Some(pattern),
-            whole: Some(whole),
-            ..read
-        });
+        read.pattern = Some(pattern);
+        read.whole = Some(whole);
+        return Ok(());
     }
     if name == "uri" {
         let uri = text(alloc, doc, name, id)?;
-        let uri = plain_uri(alloc, uri)?;
-        return Ok(AuthorizerRead {
-            uri: Some(uri),
-            ..read
-        });
+        read.uri = Some(plain_uri(alloc, uri)?);
+        return Ok(());
     }
     if name == "ttl" {
-        let ttl = number(alloc, doc, 0, 3600, name, id)?;
-        return Ok(AuthorizerRead { ttl, ..read });
+        read.ttl = number(alloc, doc, 0, 3600, name, id)?;
+        return Ok(());
     }
     if name == "timeout" {
-        let timeout = number(alloc, doc, 50, 29_000, name, id)?;
-        return Ok(AuthorizerRead { timeout, ..read });
+        read.timeout = number(alloc, doc, 50, 29_000, name, id)?;
+        return Ok(());
     }
     Err(unknown_member(alloc, name))
 }
@@ -160,10 +163,9 @@ fn read_authorizer(
     let count = object(alloc, doc, name, id)?;
     for i in 0..count {
         let (member, value) = member_at(doc, id, i);
-        read = match add_member(alloc, doc, read, member, value) {
-            Ok(read) => read,
-            Err(fault) => return Err(below(alloc, member, fault)),
-        };
+        if let Err(fault) = add_member(alloc, doc, &mut read, member, value) {
+            return Err(below(alloc, member, fault));
+        }
     }
     authorizer_of(alloc, name, read)
 }
@@ -171,21 +173,20 @@ fn read_authorizer(
 fn add_authorizer(
     alloc: Global,
     doc: &Doc,
-    read: AuthorizersRead,
+    read: &mut AuthorizersRead,
     name: &str,
     id: NodeId,
-) -> Result<AuthorizersRead, ApiFault>
+) -> Result<(), ApiFault>
     requires { IsPart doc.now id }
-    ensures { Reads (says.authorizers_member read name.now (part doc.now id)) result }
+    ensures { ReadsAs (λ (_ : Unit {0}). read.new) (says.authorizers_member read.old name.now (part doc.now id)) result }
 {
     if !is_name(name) {
         return Err(unknown_member(alloc, name));
     }
     let (authorizer, fault) = read_authorizer(alloc, doc, name, id)?;
-    let waiting = waits(alloc, read.waiting, name, fault)?;
-    let mut list = read.list;
-    match list.push(authorizer) {
-        Ok(()) => Ok(AuthorizersRead { list, waiting }),
+    defer(alloc, &mut read.waiting, name, fault)?;
+    match read.list.push(authorizer) {
+        Ok(()) => Ok(()),
         Err(_) => Err(no_memory(alloc)),
     }
 }
@@ -207,10 +208,9 @@ pub fn read_authorizers(
     let count = object(alloc, doc, name, id)?;
     for i in 0..count {
         let (member, value) = member_at(doc, id, i);
-        read = match add_authorizer(alloc, doc, read, member, value) {
-            Ok(read) => read,
-            Err(fault) => return Err(below(alloc, member, fault)),
-        };
+        if let Err(fault) = add_authorizer(alloc, doc, &mut read, member, value) {
+            return Err(below(alloc, member, fault));
+        }
     }
     Ok(read)
 }

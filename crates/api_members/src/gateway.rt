@@ -1,16 +1,16 @@
 // The gateway's own answers.
-ghost use Rattle.std.specs.Prelude.{◌≡◌, bytes_eq, map, MatchResult};
+ghost use Rattle.std.specs.Prelude.{◌≡◌, ◌++◌, ◌∷◌, [], bytes_eq, map, MatchResult};
 ghost use Rattle.std.specs.List.{list_any};
 ghost use Rattle.json_subset.specs.Documents.{IsPart, part};
 ghost use Rattle.api_mappings.specs.Mappings.{gateway_target as gateway_target_of};
-ghost use Rattle.api_parts.specs.Reading.{Reads};
+ghost use Rattle.api_parts.specs.Reading.{Reads, ReadsAs};
 ghost use Rattle.api_members.specs.Gateway as says;
 
 use crate::small::small_template;
 use api_mappings::{gateway_target, plain_source};
 use api_parts::{ApiCause, ApiFault, GatewayRule, Origin, below, no_memory};
 use api_reading::values::{copy, member_at, number, object, text, unknown_member};
-use api_reading::{bad_mapping, waits};
+use api_reading::{defer, defer_bad_mapping};
 use gw_base::{Seq, Text};
 use json_subset::{Doc, NodeId};
 use std::alloc::Global;
@@ -83,60 +83,45 @@ fn is_kind(name: &str) -> bool
 // One header more, with its source.
 fn list_header(
     alloc: Global,
-    read: HeadersRead,
+    list: &mut Seq<(Text, Origin)>,
     name: &str,
     origin: Origin,
-) -> Result<HeadersRead, ApiFault>
-    ensures { MatchResult result (λ r. r ≡ says.listed read name.now origin) (λ e. e.cause ≡ ApiCause.Memory) }
+) -> Result<(), ApiFault>
+    ensures { MatchResult result (λ _. list.new ≡ list.old ++ (name.now, origin) ∷ []) (λ e. e.cause ≡ ApiCause.Memory) }
 {
     let name = copy(alloc, name)?;
-    let mut list = read.list;
     match list.push((name, origin)) {
-        Ok(()) => Ok(HeadersRead {
-            list,
-            waiting: read.waiting,
-        }),
+        Ok(()) => Ok(()),
         Err(_) => Err(no_memory(alloc)),
     }
 }
 
-// One that waits to be refused.
-fn refuse_header(alloc: Global, read: HeadersRead, name: &str) -> Result<HeadersRead, ApiFault>
-    ensures { MatchResult result (λ r. r ≡ says.refused read name.now) (λ e. e.cause ≡ ApiCause.Memory) }
-{
-    let waiting = bad_mapping(alloc, read.waiting, name)?;
-    Ok(HeadersRead {
-        list: read.list,
-        waiting,
-    })
-}
-
 fn with_header(
     alloc: Global,
-    read: HeadersRead,
+    read: &mut HeadersRead,
     name: &str,
     origin: Option<Origin>,
-) -> Result<HeadersRead, ApiFault>
-    ensures { MatchResult result (λ r. r ≡ says.with_header read name.now (gateway_target_of name.now) origin) (λ e. e.cause ≡ ApiCause.Memory) }
+) -> Result<(), ApiFault>
+    ensures { MatchResult result (λ _. read.new ≡ says.with_header read.old name.now (gateway_target_of name.now) origin) (λ e. e.cause ≡ ApiCause.Memory) }
 {
     match gateway_target(name) {
         Some(_) => match origin {
-            Some(origin) => list_header(alloc, read, name, origin),
-            None => refuse_header(alloc, read, name),
+            Some(origin) => list_header(alloc, &mut read.list, name, origin),
+            None => defer_bad_mapping(alloc, &mut read.waiting, name),
         },
-        None => refuse_header(alloc, read, name),
+        None => defer_bad_mapping(alloc, &mut read.waiting, name),
     }
 }
 
 fn add_header(
     alloc: Global,
     doc: &Doc,
-    read: HeadersRead,
+    read: &mut HeadersRead,
     name: &str,
     id: NodeId,
-) -> Result<HeadersRead, ApiFault>
+) -> Result<(), ApiFault>
     requires { IsPart doc.now id }
-    ensures { Reads (says.headers_member read name.now (part doc.now id)) result }
+    ensures { ReadsAs (λ (_ : Unit {0}). read.new) (says.headers_member read.old name.now (part doc.now id)) result }
 {
     let source = text(alloc, doc, name, id)?;
     match plain_source(alloc, source.as_str()) {
@@ -156,10 +141,9 @@ fn read_headers(alloc: Global, doc: &Doc, name: &str, id: NodeId) -> Result<Head
     let count = object(alloc, doc, name, id)?;
     for i in 0..count {
         let (member, value) = member_at(doc, id, i);
-        read = match add_header(alloc, doc, read, member, value) {
-            Ok(read) => read,
-            Err(fault) => return Err(below(alloc, member, fault)),
-        };
+        if let Err(fault) = add_header(alloc, doc, &mut read, member, value) {
+            return Err(below(alloc, member, fault));
+        }
     }
     Ok(read)
 }
@@ -167,35 +151,27 @@ fn read_headers(alloc: Global, doc: &Doc, name: &str, id: NodeId) -> Result<Head
 fn add_member(
     alloc: Global,
     doc: &Doc,
-    read: GatewayRead,
+    read: &mut GatewayRead,
     name: &str,
     id: NodeId,
-) -> Result<GatewayRead, ApiFault>
+) -> Result<(), ApiFault>
     requires { IsPart doc.now id }
-    ensures { Reads (says.gateway_member read name.now (part doc.now id)) result }
+    ensures { ReadsAs (λ (_ : Unit {0}). read.new) (says.gateway_member read.old name.now (part doc.now id)) result }
 {
     if name == "status" {
         let status = number(alloc, doc, 400, 599, name, id)?;
-        return Ok(GatewayRead {
-            status: Some(status as u16),
-            ..read
-        });
+        read.status = Some(status as u16);
+        return Ok(());
     }
     if name == "headers" {
-        let headers = read_headers(alloc, doc, name, id)?;
-        let waiting = waits(alloc, read.waiting, name, headers.waiting)?;
-        return Ok(GatewayRead {
-            headers: headers.list,
-            waiting,
-            ..read
-        });
+        let HeadersRead { list, waiting } = read_headers(alloc, doc, name, id)?;
+        defer(alloc, &mut read.waiting, name, waiting)?;
+        read.headers = list;
+        return Ok(());
     }
     if name == "template" {
-        let template = small_template(alloc, doc, name, id)?;
-        return Ok(GatewayRead {
-            template: Some(template),
-            ..read
-        });
+        read.template = Some(small_template(alloc, doc, name, id)?);
+        return Ok(());
     }
     Err(unknown_member(alloc, name))
 }
@@ -213,40 +189,54 @@ fn read_gateway(alloc: Global, doc: &Doc, name: &str, id: NodeId) -> Result<Gate
     let count = object(alloc, doc, name, id)?;
     for i in 0..count {
         let (member, value) = member_at(doc, id, i);
-        read = match add_member(alloc, doc, read, member, value) {
-            Ok(read) => read,
-            Err(fault) => return Err(below(alloc, member, fault)),
-        };
+        if let Err(fault) = add_member(alloc, doc, &mut read, member, value) {
+            return Err(below(alloc, member, fault));
+        }
     }
     Ok(read)
+}
+
+fn list_rule(
+    alloc: Global,
+    list: &mut Seq<(Text, GatewayRule)>,
+    name: &str,
+    rule: GatewayRule,
+) -> Result<(), ApiFault>
+    ensures { MatchResult result (λ _. list.new ≡ list.old ++ (name.now, rule) ∷ []) (λ e. e.cause ≡ ApiCause.Memory) }
+{
+    let name = copy(alloc, name)?;
+    match list.push((name, rule)) {
+        Ok(()) => Ok(()),
+        Err(_) => Err(no_memory(alloc)),
+    }
 }
 
 fn add_gateway(
     alloc: Global,
     doc: &Doc,
-    read: GatewaysRead,
+    read: &mut GatewaysRead,
     name: &str,
     id: NodeId,
-) -> Result<GatewaysRead, ApiFault>
+) -> Result<(), ApiFault>
     requires { IsPart doc.now id }
-    ensures { Reads (says.gateways_member read name.now (part doc.now id)) result }
+    ensures { ReadsAs (λ (_ : Unit {0}). read.new) (says.gateways_member read.old name.now (part doc.now id)) result }
 {
     if !is_kind(name) {
         return Err(unknown_member(alloc, name));
     }
-    let gateway = read_gateway(alloc, doc, name, id)?;
-    let waiting = waits(alloc, read.waiting, name, gateway.waiting)?;
+    let GatewayRead {
+        status,
+        headers,
+        template,
+        waiting,
+    } = read_gateway(alloc, doc, name, id)?;
+    defer(alloc, &mut read.waiting, name, waiting)?;
     let rule = GatewayRule {
-        status: gateway.status,
-        headers: gateway.headers,
-        template: gateway.template,
+        status,
+        headers,
+        template,
     };
-    let name = copy(alloc, name)?;
-    let mut list = read.list;
-    match list.push((name, rule)) {
-        Ok(()) => Ok(GatewaysRead { list, waiting }),
-        Err(_) => Err(no_memory(alloc)),
-    }
+    list_rule(alloc, &mut read.list, name, rule)
 }
 
 /// The gateway's own answers, by their kinds.
@@ -266,10 +256,9 @@ pub fn read_gateways(
     let count = object(alloc, doc, name, id)?;
     for i in 0..count {
         let (member, value) = member_at(doc, id, i);
-        read = match add_gateway(alloc, doc, read, member, value) {
-            Ok(read) => read,
-            Err(fault) => return Err(below(alloc, member, fault)),
-        };
+        if let Err(fault) = add_gateway(alloc, doc, &mut read, member, value) {
+            return Err(below(alloc, member, fault));
+        }
     }
     Ok(read)
 }

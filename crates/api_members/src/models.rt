@@ -57,21 +57,20 @@ fn model(alloc: Global, doc: &Doc, id: NodeId) -> Result<Schema, ApiFault>
 fn add_model(
     alloc: Global,
     doc: &Doc,
-    read: Seq<(Text, Schema)>,
+    read: &mut Seq<(Text, Schema)>,
     name: &str,
     id: NodeId,
-) -> Result<Seq<(Text, Schema)>, ApiFault>
+) -> Result<(), ApiFault>
     requires { IsPart doc.now id }
-    ensures { ReadsAs (map says.model_seen) (says.models_member (map says.model_seen read) name.now (part doc.now id)) result }
+    ensures { ReadsAs (λ (_ : Unit {0}). map says.model_seen read.new) (says.models_member (map says.model_seen read.old) name.now (part doc.now id)) result }
 {
     if !is_name(name) {
         return Err(unknown_member(alloc, name));
     }
     let schema = model(alloc, doc, id)?;
     let name = copy(alloc, name)?;
-    let mut read = read;
     match read.push((name, schema)) {
-        Ok(()) => Ok(read),
+        Ok(()) => Ok(()),
         Err(_) => Err(no_memory(alloc)),
     }
 }
@@ -93,10 +92,9 @@ pub fn read_models(
     }
     for i in 0..count {
         let (member, value) = member_at(doc, id, i);
-        read = match add_model(alloc, doc, read, member, value) {
-            Ok(read) => read,
-            Err(fault) => return Err(below(alloc, member, fault)),
-        };
+        if let Err(fault) = add_model(alloc, doc, &mut read, member, value) {
+            return Err(below(alloc, member, fault));
+        }
     }
     Ok(read)
 }

@@ -1,7 +1,7 @@
 // Validators.
 ghost use Rattle.std.specs.Prelude.{◌≡◌};
 ghost use Rattle.json_subset.specs.Documents.{IsPart, part};
-ghost use Rattle.api_parts.specs.Reading.{Reads};
+ghost use Rattle.api_parts.specs.Reading.{Reads, ReadsAs};
 ghost use Rattle.api_members.specs.Validators.{validator_in, validator_member, validators_in, validators_member};
 
 use api_parts::{ApiFault, Validator, below, no_memory};
@@ -13,20 +13,20 @@ use std::alloc::Global;
 fn add_check(
     alloc: Global,
     doc: &Doc,
-    read: Validator,
+    read: &mut Validator,
     name: &str,
     id: NodeId,
-) -> Result<Validator, ApiFault>
+) -> Result<(), ApiFault>
     requires { IsPart doc.now id }
-    ensures { Reads (validator_member read name.now (part doc.now id)) result }
+    ensures { ReadsAs (λ (_ : Unit {0}). read.new) (validator_member read.old name.now (part doc.now id)) result }
 {
     if name == "body" {
-        let body = flag(alloc, doc, name, id)?;
-        return Ok(Validator { body, ..read });
+        read.body = flag(alloc, doc, name, id)?;
+        return Ok(());
     }
     if name == "parameters" {
-        let parameters = flag(alloc, doc, name, id)?;
-        return Ok(Validator { parameters, ..read });
+        read.parameters = flag(alloc, doc, name, id)?;
+        return Ok(());
     }
     Err(unknown_member(alloc, name))
 }
@@ -42,10 +42,9 @@ fn read_validator(alloc: Global, doc: &Doc, name: &str, id: NodeId) -> Result<Va
     let count = object(alloc, doc, name, id)?;
     for i in 0..count {
         let (member, value) = member_at(doc, id, i);
-        read = match add_check(alloc, doc, read, member, value) {
-            Ok(read) => read,
-            Err(fault) => return Err(below(alloc, member, fault)),
-        };
+        if let Err(fault) = add_check(alloc, doc, &mut read, member, value) {
+            return Err(below(alloc, member, fault));
+        }
     }
     Ok(read)
 }
@@ -53,21 +52,20 @@ fn read_validator(alloc: Global, doc: &Doc, name: &str, id: NodeId) -> Result<Va
 fn add_validator(
     alloc: Global,
     doc: &Doc,
-    read: Seq<(Text, Validator)>,
+    read: &mut Seq<(Text, Validator)>,
     name: &str,
     id: NodeId,
-) -> Result<Seq<(Text, Validator)>, ApiFault>
+) -> Result<(), ApiFault>
     requires { IsPart doc.now id }
-    ensures { Reads (validators_member read name.now (part doc.now id)) result }
+    ensures { ReadsAs (λ (_ : Unit {0}). read.new) (validators_member read.old name.now (part doc.now id)) result }
 {
     if !is_name(name) {
         return Err(unknown_member(alloc, name));
     }
     let validator = read_validator(alloc, doc, name, id)?;
     let name = copy(alloc, name)?;
-    let mut read = read;
     match read.push((name, validator)) {
-        Ok(()) => Ok(read),
+        Ok(()) => Ok(()),
         Err(_) => Err(no_memory(alloc)),
     }
 }
@@ -86,10 +84,9 @@ pub fn read_validators(
     let count = object(alloc, doc, name, id)?;
     for i in 0..count {
         let (member, value) = member_at(doc, id, i);
-        read = match add_validator(alloc, doc, read, member, value) {
-            Ok(read) => read,
-            Err(fault) => return Err(below(alloc, member, fault)),
-        };
+        if let Err(fault) = add_validator(alloc, doc, &mut read, member, value) {
+            return Err(below(alloc, member, fault));
+        }
     }
     Ok(read)
 }

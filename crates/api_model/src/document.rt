@@ -1,5 +1,5 @@
 // Reads the members of a document.
-ghost use Rattle.std.specs.Prelude.{◌≡◌, map, IfOk};
+ghost use Rattle.std.specs.Prelude.{◌≡◌, map, IfOk, OnOk};
 ghost use Rattle.json_subset.specs.Documents.{IsPart, part, root_tree};
 ghost use Rattle.api_parts.specs.Reading.{ReadsAs};
 ghost use Rattle.api_resources.specs.Paths.{IsTree};
@@ -7,11 +7,13 @@ ghost use Rattle.api_resources.specs.Resources.{path_of};
 ghost use Rattle.api_model.specs.Document as says;
 ghost use Rattle.api_model.specs.Views.{IsPlanted, read_parts, top_of};
 
-use api_members::{read_authorizers, read_gateways, read_models, read_validators};
+use api_members::{
+    AuthorizersRead, GatewaysRead, read_authorizers, read_gateways, read_models, read_validators,
+};
 use api_parts::{ApiFault, GatewayRule, Method, Resource, TokenAuthorizer, Validator, below};
+use api_reading::defer;
 use api_reading::values::{member_at, missing_member, number, object, unknown_member};
-use api_reading::waits;
-use api_resources::read_resources;
+use api_resources::{ResourcesRead, read_resources};
 use gw_base::{Seq, Text};
 use json_subset::{Doc, NodeId};
 use resource_tree::Tree;
@@ -51,24 +53,26 @@ pub struct PartsRead {
 fn add_resources(
     alloc: Global,
     doc: &Doc,
-    read: TopRead,
+    read: &mut TopRead,
     name: &str,
     id: NodeId,
-) -> Result<TopRead, ApiFault>
+) -> Result<(), ApiFault>
     requires { IsPart doc.now id }
-    ensures read { ReadsAs top_of (says.resources_added (root_tree doc.now) (top_of read) name.now (part doc.now id)) result }
-    ensures planted { IfOk result (λ r. IsPlanted r) }
+    ensures read { ReadsAs (λ (_ : Unit {0}). top_of read.new) (says.resources_added (root_tree doc.now) (top_of read.old) name.now (part doc.now id)) result }
+    ensures planted { OnOk result (IsPlanted read.new) }
 {
     let (resources, tree) = read_resources(alloc, doc, name, id)?;
-    let waiting = waits(alloc, read.waiting, name, resources.waiting)?;
-    Ok(TopRead {
-        listed: true,
-        resources: resources.list,
-        methods: resources.methods,
-        tree,
+    let ResourcesRead {
+        list,
+        methods,
         waiting,
-        ..read
-    })
+    } = resources;
+    defer(alloc, &mut read.waiting, name, waiting)?;
+    read.listed = true;
+    read.resources = list;
+    read.methods = methods;
+    read.tree = tree;
+    Ok(())
 }
 
 // The gateway's own answers.
@@ -76,72 +80,64 @@ fn add_resources(
 fn add_gateways(
     alloc: Global,
     doc: &Doc,
-    read: TopRead,
+    read: &mut TopRead,
     name: &str,
     id: NodeId,
-) -> Result<TopRead, ApiFault>
+) -> Result<(), ApiFault>
     requires part { IsPart doc.now id }
-    requires planted { IsPlanted read }
-    ensures read { ReadsAs top_of (says.gateways_added (top_of read) name.now (part doc.now id)) result }
-    ensures planted { IfOk result (λ r. IsPlanted r) }
+    requires planted { IsPlanted read.old }
+    ensures read { ReadsAs (λ (_ : Unit {0}). top_of read.new) (says.gateways_added (top_of read.old) name.now (part doc.now id)) result }
+    ensures planted { OnOk result (IsPlanted read.new) }
 {
-    let gateways = read_gateways(alloc, doc, name, id)?;
-    let waiting = waits(alloc, read.waiting, name, gateways.waiting)?;
-    Ok(TopRead {
-        gateway: gateways.list,
-        waiting,
-        ..read
-    })
+    let GatewaysRead { list, waiting } = read_gateways(alloc, doc, name, id)?;
+    defer(alloc, &mut read.waiting, name, waiting)?;
+    read.gateway = list;
+    Ok(())
 }
 
 #[tactic(auto, using(crate::proofs::Planted::planted_waits))]
 fn add_authorizers(
     alloc: Global,
     doc: &Doc,
-    read: TopRead,
+    read: &mut TopRead,
     name: &str,
     id: NodeId,
-) -> Result<TopRead, ApiFault>
+) -> Result<(), ApiFault>
     requires part { IsPart doc.now id }
-    requires planted { IsPlanted read }
-    ensures read { ReadsAs top_of (says.authorizers_added (top_of read) name.now (part doc.now id)) result }
-    ensures planted { IfOk result (λ r. IsPlanted r) }
+    requires planted { IsPlanted read.old }
+    ensures read { ReadsAs (λ (_ : Unit {0}). top_of read.new) (says.authorizers_added (top_of read.old) name.now (part doc.now id)) result }
+    ensures planted { OnOk result (IsPlanted read.new) }
 {
-    let authorizers = read_authorizers(alloc, doc, name, id)?;
-    let waiting = waits(alloc, read.waiting, name, authorizers.waiting)?;
-    Ok(TopRead {
-        authorizers: authorizers.list,
-        waiting,
-        ..read
-    })
+    let AuthorizersRead { list, waiting } = read_authorizers(alloc, doc, name, id)?;
+    defer(alloc, &mut read.waiting, name, waiting)?;
+    read.authorizers = list;
+    Ok(())
 }
 
 fn add_member(
     alloc: Global,
     doc: &Doc,
-    read: TopRead,
+    read: &mut TopRead,
     name: &str,
     id: NodeId,
-) -> Result<TopRead, ApiFault>
+) -> Result<(), ApiFault>
     requires part { IsPart doc.now id }
-    requires planted { IsPlanted read }
-    ensures read { ReadsAs top_of (says.document_member (root_tree doc.now) (top_of read) name.now (part doc.now id)) result }
-    ensures planted { IfOk result (λ r. IsPlanted r) }
+    requires planted { IsPlanted read.old }
+    ensures read { ReadsAs (λ (_ : Unit {0}). top_of read.new) (says.document_member (root_tree doc.now) (top_of read.old) name.now (part doc.now id)) result }
+    ensures planted { OnOk result (IsPlanted read.new) }
 {
     if name == "version" {
         let _one = number(alloc, doc, 1, 1, name, id)?;
-        return Ok(TopRead {
-            version: true,
-            ..read
-        });
+        read.version = true;
+        return Ok(());
     }
     if name == "models" {
-        let models = read_models(alloc, doc, name, id)?;
-        return Ok(TopRead { models, ..read });
+        read.models = read_models(alloc, doc, name, id)?;
+        return Ok(());
     }
     if name == "validators" {
-        let validators = read_validators(alloc, doc, name, id)?;
-        return Ok(TopRead { validators, ..read });
+        read.validators = read_validators(alloc, doc, name, id)?;
+        return Ok(());
     }
     if name == "authorizers" {
         return add_authorizers(alloc, doc, read, name, id);
@@ -226,10 +222,9 @@ pub fn read_document(alloc: Global, doc: &Doc) -> Result<PartsRead, ApiFault>
     let count = object(alloc, doc, "", id)?;
     for i in 0..count {
         let (member, value) = member_at(doc, id, i);
-        read = match add_member(alloc, doc, read, member, value) {
-            Ok(read) => read,
-            Err(fault) => return Err(below(alloc, member, fault)),
-        };
+        if let Err(fault) = add_member(alloc, doc, &mut read, member, value) {
+            return Err(below(alloc, member, fault));
+        }
     }
     settle(alloc, read)
 }

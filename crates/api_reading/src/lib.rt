@@ -14,7 +14,7 @@
 //! | `"a)("` | `pattern` | `BadPattern` |
 //!
 //! What the contracts promise: each call answers what the definition of `specs/Values.antt` or `specs/Texts.antt` reads of
-//! the value, or just its fault, whose place is told from the value. `waits` keeps the first of the faults that wait.
+//! the value, or just its fault, whose place is told from the value. [`defer`] keeps the first of the faults that wait.
 //! Want of memory alone has no cause.
 #![tactic(auto)]
 
@@ -23,4 +23,4 @@ pub mod values;
 mod waiting;
 
 pub use texts::{pattern, read_template, read_templates, token_pattern};
-pub use waiting::{bad_mapping, waits};
+pub use waiting::{defer, defer_bad_mapping};

@@ -18,39 +18,40 @@ fn place_below(alloc: Global, name: &str, fault: ApiFault) -> Result<ApiFault, A
     }
 }
 
-/// What waits after a member was read: the first fault that was met, told from the object.
-pub fn waits(
+/// Keeps the fault of a member until all members are read. Of two, the first that is met counts; its place is told from the object.
+///
+/// # Errors
+///
+/// [`ApiCause::Memory`] where there is no memory.
+pub fn defer(
     alloc: Global,
-    before: Option<ApiFault>,
+    waiting: &mut Option<ApiFault>,
     name: &str,
     fault: Option<ApiFault>,
-) -> Result<Option<ApiFault>, ApiFault>
-    ensures { MatchResult result (λ w. w ≡ first_of before (waiting_below name.now fault)) (λ e. e.cause ≡ ApiCause.Memory) }
+) -> Result<(), ApiFault>
+    ensures { MatchResult result (λ _. waiting.new ≡ first_of waiting.old (waiting_below name.now fault)) (λ e. e.cause ≡ ApiCause.Memory) }
 {
-    if before.is_some() {
-        return Ok(before);
+    if waiting.is_some() {
+        return Ok(());
     }
-    match fault {
-        Some(fault) => match place_below(alloc, name, fault) {
-            Ok(fault) => Ok(Some(fault)),
-            Err(fault) => Err(fault),
-        },
-        None => Ok(None),
+    if let Some(fault) = fault {
+        *waiting = Some(place_below(alloc, name, fault)?);
     }
+    Ok(())
 }
 
-/// What waits after a member that is no mapping.
-pub fn bad_mapping(
+/// Keeps `BadMapping` for a member that is not a mapping, as [`defer`] does.
+///
+/// # Errors
+///
+/// [`ApiCause::Memory`] where there is no memory.
+pub fn defer_bad_mapping(
     alloc: Global,
-    before: Option<ApiFault>,
+    waiting: &mut Option<ApiFault>,
     name: &str,
-) -> Result<Option<ApiFault>, ApiFault>
-    ensures { MatchResult result (λ w. w ≡ first_of before (Some (fault_below name.now (here ApiCause.BadMapping)))) (λ e. e.cause ≡ ApiCause.Memory) }
+) -> Result<(), ApiFault>
+    ensures { MatchResult result (λ _. waiting.new ≡ first_of waiting.old (Some (fault_below name.now (here ApiCause.BadMapping)))) (λ e. e.cause ≡ ApiCause.Memory) }
 {
-    waits(
-        alloc,
-        before,
-        name,
-        Some(fault_here(alloc, ApiCause::BadMapping)),
-    )
+    let fault = fault_here(alloc, ApiCause::BadMapping);
+    defer(alloc, waiting, name, Some(fault))
 }

@@ -1,6 +1,6 @@
 -- The first fault of the resources' paths, told at its own place.
 use Rattle.std.proofs.Common.{◌≡◌, ◌≢◌, ℕ, zero, suc, ◌+◌, ◌<◌, ◌≤◌, Bool, true, false, List, [], ◌∷◌, ◌++◌, length, map, take, Option, Some, None, Ok, Err, refl, sym, ap, ◌∙◌, subst, arith, eqb, ltb, ◌⊎◌, inl, inr}
-use Rattle.std.specs.Prelude.{◌==◌, not, if◌then◌else◌, Result, IfOk, slice_index_or}
+use Rattle.std.specs.Prelude.{◌==◌, not, if◌then◌else◌, Result, OnOk, slice_index_or}
 use Rattle.api_parts.specs.declared.fault.ApiFault.{ApiFault}
 use Rattle.std.specs.List.{list_any}
 use Rattle.std.proofs.lemmas.Bool.Decides.{nat_tests}
@@ -12,7 +12,7 @@ use Rattle.resource_tree.specs.Sharing.{clashes, greedy_last}
 use Rattle.resource_tree.specs.declared.part.Part.{Part}
 use Rattle.resource_tree.specs.declared.fault.TreeFault.{TreeFault}
 use Rattle.resource_tree.specs.declared.fault.TreeFault.TheVariants.{BadPart, Clash, GreedyNotLast, Memory}
-use Rattle.api_parts.specs.Reading.{Text, Waiting, Read, Reads, ◌>>=◌, first_of, waiting_below}
+use Rattle.api_parts.specs.Reading.{Text, Waiting, Read, ReadsAs, ◌>>=◌, first_of, waiting_below}
 use Rattle.api_resources.specs.Paths.{at_place, own_fault, HasTree, IsTold, IsTreeFor}
 use Rattle.api_resources.specs.Resources.{path_of, path_waiting, resource_added, resources_member, verbs_in, with_resource}
 use Rattle.api_resources.specs.declared.resources.ResourcesRead.{ResourcesRead}
@@ -145,10 +145,10 @@ added_told document paths first i all x t r told e =
     let v = added document (own_fault first i) all x t r e in
     subst (λ (q : ResourcesRead). IsTold paths first (i + 1) q.waiting) (sym v.1) (told_next paths first i all.waiting v.0.waiting x told)
 
-pub told_of : (document : Tree) (paths : List Text) (first : Option TreeFault) (i : ℕ) (all : ResourcesRead) (x : Text) (t : Tree) (result : Result ResourcesRead ApiFault) → IsTold paths first i all.waiting
-    → Reads (resource_added document (own_fault first i) all x t) result → IfOk result (λ r. IsTold paths first (i + 1) r.waiting)
-told_of document paths first i all x t (Ok r) told e = added_told document paths first i all x t r told e
-told_of document paths first i all x t (Err f) told e = tt
+pub told_of : (document : Tree) (paths : List Text) (first : Option TreeFault) (i : ℕ) (all : ResourcesRead) (x : Text) (t : Tree) (new : ResourcesRead) (result : Result (Unit {0}) ApiFault) → IsTold paths first i all.waiting
+    → ReadsAs (λ (_ : Unit {0}). new) (resource_added document (own_fault first i) all x t) result → OnOk result (IsTold paths first (i + 1) new.waiting)
+told_of document paths first i all x t new (Ok u) told e = added_told document paths first i all x t new told e
+told_of document paths first i all x t new (Err f) told e = tt
 
 -- before the first
 pub told_first : (paths : List Text) (tree : Option (List (List Part))) (first : Option TreeFault) → IsTreeFor paths tree first → IsTold paths first 0 None

@@ -11,11 +11,14 @@ use Rattle.api_resources.specs.declared.rules.RuleRead.{RuleRead}
 use Rattle.api_resources.specs.declared.rules.RulesRead.{RulesRead}
 use Rattle.api_resources.specs.Mapped.{mappings_in}
 
+abbrev pub rule_mappings : RuleRead → Text → Tree → Read RuleRead
+rule_mappings r x t = mappings_in Response [] x t >>= λ ms. Ok (record r { parameters = ms.list; waiting = first_of r.waiting (waiting_below x ms.waiting) })
+
 abbrev pub rule_member : RuleRead → Text → Tree → Read RuleRead
 rule_member r x t =
     if bytes_eq x (codes "pattern") then (pattern_in x t >>= λ p. Ok (record r { pattern = Some p }))
     else if bytes_eq x (codes "status") then (number_in 200 599 x t >>= λ n. Ok (record r { status = Some n }))
-    else if bytes_eq x (codes "parameters") then (mappings_in Response [] x t >>= λ ms. Ok (record r { parameters = ms.list; waiting = first_of r.waiting (waiting_below x ms.waiting) }))
+    else if bytes_eq x (codes "parameters") then rule_mappings r x t
     else if bytes_eq x (codes "templates") then (templates_in x t >>= λ ts. Ok (record r { templates = ts }))
     else unknown x
 

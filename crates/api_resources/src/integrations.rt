@@ -4,11 +4,11 @@ ghost use Rattle.std.specs.List.{list_all};
 ghost use Rattle.std.specs.Option.{option_map};
 ghost use Rattle.json_subset.specs.Documents.{IsPart, form, member_named, part};
 ghost use Rattle.api_mappings.specs.Uris.{uri_of};
-ghost use Rattle.api_parts.specs.Reading.{Reads, first_of};
+ghost use Rattle.api_parts.specs.Reading.{Reads, ReadsAs, first_of};
 ghost use Rattle.api_resources.specs.Integrations as says;
 
-use crate::mapped::{Side, read_mappings};
-use crate::rules::read_rules;
+use crate::mapped::{MappingsRead, Side, read_mappings};
+use crate::rules::{RulesRead, read_rules};
 use api_mappings::read_uri;
 use api_parts::{
     ApiCause, ApiFault, Integration, IntegrationKind, Mapping, Passthrough, Piece, ResponseRule,
@@ -17,10 +17,10 @@ use api_parts::{
 use api_reading::values::{
     bad_member, fault_here, member_at, missing_member, number, object, text, unknown_member,
 };
-use api_reading::{bad_mapping, read_templates, waits};
+use api_reading::{defer, defer_bad_mapping, read_templates};
 use gw_base::{Memory, Seq, Text};
 use json_subset::{Doc, NodeId};
-use pattern_tables::StatusTables;
+use status_table::StatusTables;
 use std::alloc::Global;
 use vtl_reader::Template;
 
@@ -188,44 +188,41 @@ fn have_mappings(
     Ok(true)
 }
 
-fn uri_waits(
+fn defer_unmapped(
     alloc: Global,
     doc: &Doc,
     parameters: Option<NodeId>,
-    before: Option<ApiFault>,
+    waiting: &mut Option<ApiFault>,
     name: &str,
     path: &[Piece],
-) -> Result<Option<ApiFault>, ApiFault>
+) -> Result<(), ApiFault>
     requires { IfSome parameters (IsPart doc.now) }
-    ensures { MatchResult result (λ w. w ≡ first_of before (says.uri_waiting (option_map (part doc.now) parameters) name.now path.now)) (λ e. e.cause ≡ ApiCause.Memory) }
+    ensures { MatchResult result (λ _. waiting.new ≡ first_of waiting.old (says.uri_waiting (option_map (part doc.now) parameters) name.now path.now)) (λ e. e.cause ≡ ApiCause.Memory) }
 {
     match have_mappings(alloc, doc, parameters, path) {
-        Ok(true) => waits(alloc, before, name, None),
-        Ok(false) => bad_mapping(alloc, before, name),
+        Ok(true) => defer(alloc, waiting, name, None),
+        Ok(false) => defer_bad_mapping(alloc, waiting, name),
         Err(_) => Err(no_memory(alloc)),
     }
 }
 
-fn with_uri(
+fn add_uri(
     alloc: Global,
     doc: &Doc,
     parameters: Option<NodeId>,
-    read: IntegrationRead,
+    read: &mut IntegrationRead,
     name: &str,
     text: Text,
-) -> Result<IntegrationRead, ApiFault>
+) -> Result<(), ApiFault>
     requires { IfSome parameters (IsPart doc.now) }
-    ensures { Reads (says.with_uri (option_map (part doc.now) parameters) read name.now text (uri_of text)) result }
+    ensures { ReadsAs (λ (_ : Unit {0}). read.new) (says.with_uri (option_map (part doc.now) parameters) read.old name.now text (uri_of text)) result }
 {
     match read_uri(alloc, text.as_str()) {
         Ok(Some(uri)) => {
             let path = uri.path.as_slice();
-            let waiting = uri_waits(alloc, doc, parameters, read.waiting, name, path)?;
-            Ok(IntegrationRead {
-                uri: Some((text, uri)),
-                waiting,
-                ..read
-            })
+            defer_unmapped(alloc, doc, parameters, &mut read.waiting, name, path)?;
+            read.uri = Some((text, uri));
+            Ok(())
         }
         Ok(None) => Err(fault_here(alloc, ApiCause::BadUri)),
         Err(_) => Err(no_memory(alloc)),
@@ -237,35 +234,32 @@ fn add_mappings(
     alloc: Global,
     doc: &Doc,
     path: &str,
-    read: IntegrationRead,
+    read: &mut IntegrationRead,
     name: &str,
     id: NodeId,
-) -> Result<IntegrationRead, ApiFault>
+) -> Result<(), ApiFault>
     requires { IsPart doc.now id }
-    ensures { Reads (says.mappings_row path.now read name.now (part doc.now id)) result }
+    ensures { ReadsAs (λ (_ : Unit {0}). read.new) (says.mappings_row path.now read.old name.now (part doc.now id)) result }
 {
-    let mappings = read_mappings(alloc, doc, Side::Request, path, name, id)?;
-    let waiting = waits(alloc, read.waiting, name, mappings.waiting)?;
-    Ok(IntegrationRead {
-        parameters: mappings.list,
-        waiting,
-        ..read
-    })
+    let MappingsRead { list, waiting } = read_mappings(alloc, doc, Side::Request, path, name, id)?;
+    defer(alloc, &mut read.waiting, name, waiting)?;
+    read.parameters = list;
+    Ok(())
 }
 
 #[tactic(auto, unfolding(crate::specs::Integrations::templates_row))]
 fn add_templates(
     alloc: Global,
     doc: &Doc,
-    read: IntegrationRead,
+    read: &mut IntegrationRead,
     name: &str,
     id: NodeId,
-) -> Result<IntegrationRead, ApiFault>
+) -> Result<(), ApiFault>
     requires { IsPart doc.now id }
-    ensures { Reads (says.templates_row read name.now (part doc.now id)) result }
+    ensures { ReadsAs (λ (_ : Unit {0}). read.new) (says.templates_row read.old name.now (part doc.now id)) result }
 {
-    let templates = read_templates(alloc, doc, name, id)?;
-    Ok(IntegrationRead { templates, ..read })
+    read.templates = read_templates(alloc, doc, name, id)?;
+    Ok(())
 }
 
 #[tactic(auto, unfolding(crate::specs::Integrations::rules_row))]
@@ -273,20 +267,22 @@ fn add_rules(
     alloc: Global,
     doc: &Doc,
     tables: &mut StatusTables,
-    read: IntegrationRead,
+    read: &mut IntegrationRead,
     name: &str,
     id: NodeId,
-) -> Result<IntegrationRead, ApiFault>
+) -> Result<(), ApiFault>
     requires { IsPart doc.now id }
-    ensures { Reads (says.rules_row read name.now (part doc.now id)) result }
+    ensures { ReadsAs (λ (_ : Unit {0}). read.new) (says.rules_row read.old name.now (part doc.now id)) result }
 {
     let rules = read_rules(alloc, doc, tables, name, id)?;
-    let waiting = waits(alloc, read.waiting, name, rules.waiting)?;
-    Ok(IntegrationRead {
-        responses: rules.list,
+    let RulesRead {
+        list,
+        has_default: _,
         waiting,
-        ..read
-    })
+    } = rules;
+    defer(alloc, &mut read.waiting, name, waiting)?;
+    read.responses = list;
+    Ok(())
 }
 
 // Mappings, templates, rules and the timeout.
@@ -295,12 +291,12 @@ fn add_inner(
     doc: &Doc,
     tables: &mut StatusTables,
     path: &str,
-    read: IntegrationRead,
+    read: &mut IntegrationRead,
     name: &str,
     id: NodeId,
-) -> Result<IntegrationRead, ApiFault>
+) -> Result<(), ApiFault>
     requires { IsPart doc.now id }
-    ensures { Reads (says.inner_row path.now read name.now (part doc.now id)) result }
+    ensures { ReadsAs (λ (_ : Unit {0}). read.new) (says.inner_row path.now read.old name.now (part doc.now id)) result }
 {
     if name == "parameters" {
         return add_mappings(alloc, doc, path, read, name, id);
@@ -312,8 +308,8 @@ fn add_inner(
         return add_rules(alloc, doc, tables, read, name, id);
     }
     if name == "timeout" {
-        let timeout = number(alloc, doc, 50, 29_000, name, id)?;
-        return Ok(IntegrationRead { timeout, ..read });
+        read.timeout = number(alloc, doc, 50, 29_000, name, id)?;
+        return Ok(());
     }
     Err(unknown_member(alloc, name))
 }
@@ -332,38 +328,32 @@ fn add_row(
     doc: &Doc,
     tables: &mut StatusTables,
     around: &Around<'_>,
-    read: IntegrationRead,
+    read: &mut IntegrationRead,
     name: &str,
     id: NodeId,
-) -> Result<IntegrationRead, ApiFault>
+) -> Result<(), ApiFault>
     requires part { IsPart doc.now id }
     requires parameters { IfSome around.now.parameters (IsPart doc.now) }
-    ensures { Reads (says.integration_row around.now.kind (option_map (part doc.now) around.now.parameters) around.now.path.now read name.now (part doc.now id)) result }
+    ensures { ReadsAs (λ (_ : Unit {0}). read.new) (says.integration_row around.now.kind (option_map (part doc.now) around.now.parameters) around.now.path.now read.old name.now (part doc.now id)) result }
 {
     if name == "type" {
         return if around.kind.is_some() {
-            Ok(read)
+            Ok(())
         } else {
             Err(bad_member(alloc, name))
         };
     }
     if name == "method" {
-        let method = read_method(alloc, doc, name, id)?;
-        return Ok(IntegrationRead {
-            method: Some(method),
-            ..read
-        });
+        read.method = Some(read_method(alloc, doc, name, id)?);
+        return Ok(());
     }
     if name == "uri" {
         let text = text(alloc, doc, name, id)?;
-        return with_uri(alloc, doc, around.parameters, read, name, text);
+        return add_uri(alloc, doc, around.parameters, read, name, text);
     }
     if name == "passthrough" {
-        let passthrough = read_passthrough(alloc, doc, name, id)?;
-        return Ok(IntegrationRead {
-            passthrough,
-            ..read
-        });
+        read.passthrough = read_passthrough(alloc, doc, name, id)?;
+        return Ok(());
     }
     add_inner(alloc, doc, tables, around.path, read, name, id)
 }
@@ -373,13 +363,13 @@ fn add_member(
     doc: &Doc,
     tables: &mut StatusTables,
     around: &Around<'_>,
-    read: IntegrationRead,
+    read: &mut IntegrationRead,
     name: &str,
     id: NodeId,
-) -> Result<IntegrationRead, ApiFault>
+) -> Result<(), ApiFault>
     requires part { IsPart doc.now id }
     requires parameters { IfSome around.now.parameters (IsPart doc.now) }
-    ensures { Reads (says.integration_member around.now.kind (option_map (part doc.now) around.now.parameters) around.now.path.now read name.now (part doc.now id)) result }
+    ensures { ReadsAs (λ (_ : Unit {0}). read.new) (says.integration_member around.now.kind (option_map (part doc.now) around.now.parameters) around.now.path.now read.old name.now (part doc.now id)) result }
 {
     if may_have(around.kind, name) {
         add_row(alloc, doc, tables, around, read, name, id)
@@ -503,10 +493,9 @@ pub fn read_integration(
     let count = object(alloc, doc, name, id)?;
     for i in 0..count {
         let (member, value) = member_at(doc, id, i);
-        read = match add_member(alloc, doc, tables, &around, read, member, value) {
-            Ok(read) => read,
-            Err(fault) => return Err(below(alloc, member, fault)),
-        };
+        if let Err(fault) = add_member(alloc, doc, tables, &around, &mut read, member, value) {
+            return Err(below(alloc, member, fault));
+        }
     }
     integration_of(alloc, around.kind, read)
 }

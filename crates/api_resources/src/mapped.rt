@@ -1,13 +1,13 @@
 // Mappings.
-ghost use Rattle.std.specs.Prelude.{◌≡◌, IfOk, MatchResult};
+ghost use Rattle.std.specs.Prelude.{◌≡◌, ◌++◌, ◌∷◌, [], IfOk, MatchResult};
 ghost use Rattle.std.specs.Option.{option_map};
 ghost use Rattle.json_subset.specs.Documents.{IsPart, part};
-ghost use Rattle.api_parts.specs.Reading.{Reads};
+ghost use Rattle.api_parts.specs.Reading.{Reads, ReadsAs};
 ghost use Rattle.api_resources.specs.Mapped as says;
 
 use api_mappings::{request_source, request_target, response_source, response_target};
 use api_parts::{ApiCause, ApiFault, Mapping, Origin, ParameterPlace, below, no_memory};
-use api_reading::bad_mapping;
+use api_reading::defer_bad_mapping;
 use api_reading::values::{copy, member_at, object, text};
 use gw_base::{Memory, Seq};
 use json_subset::{Doc, NodeId};
@@ -47,47 +47,41 @@ fn source(alloc: Global, side: Side, path: &str, text: &str) -> Result<Option<Or
     }
 }
 
+fn list_mapping(
+    alloc: Global,
+    list: &mut Seq<Mapping>,
+    place: ParameterPlace,
+    name: &str,
+    origin: Origin,
+) -> Result<(), ApiFault>
+    ensures { MatchResult result (λ _. list.new ≡ list.old ++ (record { place = place; name = name.now; origin = origin }) ∷ []) (λ e. e.cause ≡ ApiCause.Memory) }
+{
+    let name = copy(alloc, name)?;
+    match list.push(Mapping {
+        place,
+        name,
+        origin,
+    }) {
+        Ok(()) => Ok(()),
+        Err(_) => Err(no_memory(alloc)),
+    }
+}
+
 fn with_mapping(
     alloc: Global,
     side: Side,
-    read: MappingsRead,
+    read: &mut MappingsRead,
     name: &str,
     origin: Option<Origin>,
-) -> Result<MappingsRead, ApiFault>
-    ensures { MatchResult result (λ r. r ≡ says.with_mapping read name.now (says.target_of side name.now) origin) (λ e. e.cause ≡ ApiCause.Memory) }
+) -> Result<(), ApiFault>
+    ensures { MatchResult result (λ _. read.new ≡ says.with_mapping read.old name.now (says.target_of side name.now) origin) (λ e. e.cause ≡ ApiCause.Memory) }
 {
     match target(side, name) {
         Some((place, target)) => match origin {
-            Some(origin) => {
-                let target = copy(alloc, target)?;
-                let mut list = read.list;
-                match list.push(Mapping {
-                    place,
-                    name: target,
-                    origin,
-                }) {
-                    Ok(()) => Ok(MappingsRead {
-                        list,
-                        waiting: read.waiting,
-                    }),
-                    Err(_) => Err(no_memory(alloc)),
-                }
-            }
-            None => {
-                let waiting = bad_mapping(alloc, read.waiting, name)?;
-                Ok(MappingsRead {
-                    list: read.list,
-                    waiting,
-                })
-            }
+            Some(origin) => list_mapping(alloc, &mut read.list, place, target, origin),
+            None => defer_bad_mapping(alloc, &mut read.waiting, name),
         },
-        None => {
-            let waiting = bad_mapping(alloc, read.waiting, name)?;
-            Ok(MappingsRead {
-                list: read.list,
-                waiting,
-            })
-        }
+        None => defer_bad_mapping(alloc, &mut read.waiting, name),
     }
 }
 
@@ -96,12 +90,12 @@ fn add_mapping(
     doc: &Doc,
     side: Side,
     path: &str,
-    read: MappingsRead,
+    read: &mut MappingsRead,
     name: &str,
     id: NodeId,
-) -> Result<MappingsRead, ApiFault>
+) -> Result<(), ApiFault>
     requires { IsPart doc.now id }
-    ensures { Reads (says.mappings_member side path.now read name.now (part doc.now id)) result }
+    ensures { ReadsAs (λ (_ : Unit {0}). read.new) (says.mappings_member side path.now read.old name.now (part doc.now id)) result }
 {
     let text = text(alloc, doc, name, id)?;
     match source(alloc, side, path, text.as_str()) {
@@ -129,10 +123,9 @@ pub fn read_mappings(
     let count = object(alloc, doc, name, id)?;
     for i in 0..count {
         let (member, value) = member_at(doc, id, i);
-        read = match add_mapping(alloc, doc, side, path, read, member, value) {
-            Ok(read) => read,
-            Err(fault) => return Err(below(alloc, member, fault)),
-        };
+        if let Err(fault) = add_mapping(alloc, doc, side, path, &mut read, member, value) {
+            return Err(below(alloc, member, fault));
+        }
     }
     Ok(read)
 }

@@ -1,8 +1,8 @@
 // Methods.
-ghost use Rattle.std.specs.Prelude.{◌≡◌, [], codes, MatchResult, Some};
+ghost use Rattle.std.specs.Prelude.{◌≡◌, ◌++◌, ◌∷◌, [], codes, MatchResult, Some};
 ghost use Rattle.json_subset.specs.Documents.{IsPart, form, part, root_tree};
 ghost use Rattle.json_values.specs.Parts.{entries_of};
-ghost use Rattle.api_parts.specs.Reading.{Reads};
+ghost use Rattle.api_parts.specs.Reading.{Reads, ReadsAs};
 ghost use Rattle.api_resources.specs.Methods as says;
 
 use crate::integrations::read_integration;
@@ -13,10 +13,10 @@ use api_parts::{
 use api_reading::values::{
     copy, entry_count, fault_here, flag, member_at, missing_member, object, text, unknown_member,
 };
-use api_reading::{bad_mapping, waits};
+use api_reading::{defer, defer_bad_mapping};
 use gw_base::{Seq, Text};
 use json_subset::{Doc, NodeId};
-use pattern_tables::StatusTables;
+use status_table::StatusTables;
 use std::alloc::Global;
 
 /// What is read of a method so far.
@@ -71,32 +71,28 @@ fn number_among(doc: &Doc, member: &str, name: &str) -> Option<u32>
     }
 }
 
-fn no_such(
+fn defer_no_such(
     alloc: Global,
-    before: Option<ApiFault>,
+    waiting: &mut Option<ApiFault>,
     name: &str,
     other: Text,
-) -> Result<Option<ApiFault>, ApiFault>
-    ensures { MatchResult result (λ w. w ≡ says.no_such before name.now other) (λ e. e.cause ≡ ApiCause.Memory) }
+) -> Result<(), ApiFault>
+    ensures { MatchResult result (λ _. waiting.new ≡ says.no_such waiting.old name.now other) (λ e. e.cause ≡ ApiCause.Memory) }
 {
-    waits(
-        alloc,
-        before,
-        name,
-        Some(fault_here(alloc, ApiCause::NoSuch(other))),
-    )
+    let fault = fault_here(alloc, ApiCause::NoSuch(other));
+    defer(alloc, waiting, name, Some(fault))
 }
 
 fn add_parameter(
     alloc: Global,
     doc: &Doc,
     path: &str,
-    read: ParametersRead,
+    read: &mut ParametersRead,
     name: &str,
     id: NodeId,
-) -> Result<ParametersRead, ApiFault>
+) -> Result<(), ApiFault>
     requires { IsPart doc.now id }
-    ensures { Reads (says.parameters_member path.now read name.now (part doc.now id)) result }
+    ensures { ReadsAs (λ (_ : Unit {0}). read.new) (says.parameters_member path.now read.old name.now (part doc.now id)) result }
 {
     let required = flag(alloc, doc, name, id)?;
     let found = match parameter(alloc, path, name) {
@@ -105,36 +101,26 @@ fn add_parameter(
     };
     match found {
         Some((place, spot)) => with_parameter(alloc, read, place, spot, required),
-        None => {
-            let waiting = bad_mapping(alloc, read.waiting, name)?;
-            Ok(ParametersRead {
-                list: read.list,
-                waiting,
-            })
-        }
+        None => defer_bad_mapping(alloc, &mut read.waiting, name),
     }
 }
 
 fn with_parameter(
     alloc: Global,
-    read: ParametersRead,
+    read: &mut ParametersRead,
     place: ParameterPlace,
     name: &str,
     required: bool,
-) -> Result<ParametersRead, ApiFault>
-    ensures { MatchResult result (λ r. r ≡ says.with_parameter read [] required (Some (place, name.now))) (λ e. e.cause ≡ ApiCause.Memory) }
+) -> Result<(), ApiFault>
+    ensures { MatchResult result (λ _. read.new ≡ says.with_parameter read.old [] required (Some (place, name.now))) (λ e. e.cause ≡ ApiCause.Memory) }
 {
     let name = copy(alloc, name)?;
-    let mut list = read.list;
-    match list.push(Parameter {
+    match read.list.push(Parameter {
         place,
         name,
         required,
     }) {
-        Ok(()) => Ok(ParametersRead {
-            list,
-            waiting: read.waiting,
-        }),
+        Ok(()) => Ok(()),
         Err(_) => Err(no_memory(alloc)),
     }
 }
@@ -156,44 +142,42 @@ fn read_parameters(
     let count = object(alloc, doc, name, id)?;
     for i in 0..count {
         let (member, value) = member_at(doc, id, i);
-        read = match add_parameter(alloc, doc, path, read, member, value) {
-            Ok(read) => read,
-            Err(fault) => return Err(below(alloc, member, fault)),
-        };
+        if let Err(fault) = add_parameter(alloc, doc, path, &mut read, member, value) {
+            return Err(below(alloc, member, fault));
+        }
     }
     Ok(read)
+}
+
+fn list_model(
+    alloc: Global,
+    list: &mut Seq<(Text, u32)>,
+    name: &str,
+    number: u32,
+) -> Result<(), ApiFault>
+    ensures { MatchResult result (λ _. list.new ≡ list.old ++ (name.now, number) ∷ []) (λ e. e.cause ≡ ApiCause.Memory) }
+{
+    let name = copy(alloc, name)?;
+    match list.push((name, number)) {
+        Ok(()) => Ok(()),
+        Err(_) => Err(no_memory(alloc)),
+    }
 }
 
 fn add_model(
     alloc: Global,
     doc: &Doc,
-    read: NamedRead,
+    read: &mut NamedRead,
     name: &str,
     id: NodeId,
-) -> Result<NamedRead, ApiFault>
+) -> Result<(), ApiFault>
     requires { IsPart doc.now id }
-    ensures { Reads (says.named_models_member (root_tree doc.now) read name.now (part doc.now id)) result }
+    ensures { ReadsAs (λ (_ : Unit {0}). read.new) (says.named_models_member (root_tree doc.now) read.old name.now (part doc.now id)) result }
 {
     let other = text(alloc, doc, name, id)?;
     match number_among(doc, "models", other.as_str()) {
-        Some(number) => {
-            let name = copy(alloc, name)?;
-            let mut list = read.list;
-            match list.push((name, number)) {
-                Ok(()) => Ok(NamedRead {
-                    list,
-                    waiting: read.waiting,
-                }),
-                Err(_) => Err(no_memory(alloc)),
-            }
-        }
-        None => {
-            let waiting = no_such(alloc, read.waiting, name, other)?;
-            Ok(NamedRead {
-                list: read.list,
-                waiting,
-            })
-        }
+        Some(number) => list_model(alloc, &mut read.list, name, number),
+        None => defer_no_such(alloc, &mut read.waiting, name, other),
     }
 }
 
@@ -208,10 +192,9 @@ fn read_models(alloc: Global, doc: &Doc, name: &str, id: NodeId) -> Result<Named
     let count = object(alloc, doc, name, id)?;
     for i in 0..count {
         let (member, value) = member_at(doc, id, i);
-        read = match add_model(alloc, doc, read, member, value) {
-            Ok(read) => read,
-            Err(fault) => return Err(below(alloc, member, fault)),
-        };
+        if let Err(fault) = add_model(alloc, doc, &mut read, member, value) {
+            return Err(below(alloc, member, fault));
+        }
     }
     Ok(read)
 }
@@ -219,42 +202,36 @@ fn read_models(alloc: Global, doc: &Doc, name: &str, id: NodeId) -> Result<Named
 fn add_authorizer(
     alloc: Global,
     doc: &Doc,
-    read: MethodRead,
+    read: &mut MethodRead,
     name: &str,
     other: Text,
-) -> Result<MethodRead, ApiFault>
-    ensures { MatchResult result (λ r. r ≡ says.with_authorizer read name.now other (says.number_among (root_tree doc.now) (codes "authorizers") other)) (λ e. e.cause ≡ ApiCause.Memory) }
+) -> Result<(), ApiFault>
+    ensures { MatchResult result (λ _. read.new ≡ says.with_authorizer read.old name.now other (says.number_among (root_tree doc.now) (codes "authorizers") other)) (λ e. e.cause ≡ ApiCause.Memory) }
 {
     match number_among(doc, "authorizers", other.as_str()) {
-        Some(number) => Ok(MethodRead {
-            authorizer: Some(number),
-            ..read
-        }),
-        None => {
-            let waiting = no_such(alloc, read.waiting, name, other)?;
-            Ok(MethodRead { waiting, ..read })
+        Some(number) => {
+            read.authorizer = Some(number);
+            Ok(())
         }
+        None => defer_no_such(alloc, &mut read.waiting, name, other),
     }
 }
 
 fn add_validator(
     alloc: Global,
     doc: &Doc,
-    read: MethodRead,
+    read: &mut MethodRead,
     name: &str,
     other: Text,
-) -> Result<MethodRead, ApiFault>
-    ensures { MatchResult result (λ r. r ≡ says.with_validator read name.now other (says.number_among (root_tree doc.now) (codes "validators") other)) (λ e. e.cause ≡ ApiCause.Memory) }
+) -> Result<(), ApiFault>
+    ensures { MatchResult result (λ _. read.new ≡ says.with_validator read.old name.now other (says.number_among (root_tree doc.now) (codes "validators") other)) (λ e. e.cause ≡ ApiCause.Memory) }
 {
     match number_among(doc, "validators", other.as_str()) {
-        Some(number) => Ok(MethodRead {
-            validator: Some(number),
-            ..read
-        }),
-        None => {
-            let waiting = no_such(alloc, read.waiting, name, other)?;
-            Ok(MethodRead { waiting, ..read })
+        Some(number) => {
+            read.validator = Some(number);
+            Ok(())
         }
+        None => defer_no_such(alloc, &mut read.waiting, name, other),
     }
 }
 
@@ -263,19 +240,16 @@ fn add_member(
     doc: &Doc,
     tables: &mut StatusTables,
     path: &str,
-    read: MethodRead,
+    read: &mut MethodRead,
     name: &str,
     id: NodeId,
-) -> Result<MethodRead, ApiFault>
+) -> Result<(), ApiFault>
     requires { IsPart doc.now id }
-    ensures { Reads (says.method_member (root_tree doc.now) path.now read name.now (part doc.now id)) result }
+    ensures { ReadsAs (λ (_ : Unit {0}). read.new) (says.method_member (root_tree doc.now) path.now read.old name.now (part doc.now id)) result }
 {
     if name == "apiKeyRequired" {
-        let api_key_required = flag(alloc, doc, name, id)?;
-        return Ok(MethodRead {
-            api_key_required,
-            ..read
-        });
+        read.api_key_required = flag(alloc, doc, name, id)?;
+        return Ok(());
     }
     if name == "authorizer" {
         let other = text(alloc, doc, name, id)?;
@@ -293,40 +267,34 @@ fn add_parameters(
     alloc: Global,
     doc: &Doc,
     path: &str,
-    read: MethodRead,
+    read: &mut MethodRead,
     name: &str,
     id: NodeId,
-) -> Result<MethodRead, ApiFault>
+) -> Result<(), ApiFault>
     requires { IsPart doc.now id }
-    ensures { Reads (says.parameters_member_in path.now read name.now (part doc.now id)) result }
+    ensures { ReadsAs (λ (_ : Unit {0}). read.new) (says.parameters_member_in path.now read.old name.now (part doc.now id)) result }
 {
-    let parameters = read_parameters(alloc, doc, path, name, id)?;
-    let waiting = waits(alloc, read.waiting, name, parameters.waiting)?;
-    Ok(MethodRead {
-        parameters: parameters.list,
-        waiting,
-        ..read
-    })
+    let ParametersRead { list, waiting } = read_parameters(alloc, doc, path, name, id)?;
+    defer(alloc, &mut read.waiting, name, waiting)?;
+    read.parameters = list;
+    Ok(())
 }
 
 #[tactic(auto, unfolding(crate::specs::Methods::models_member_in))]
 fn add_models(
     alloc: Global,
     doc: &Doc,
-    read: MethodRead,
+    read: &mut MethodRead,
     name: &str,
     id: NodeId,
-) -> Result<MethodRead, ApiFault>
+) -> Result<(), ApiFault>
     requires { IsPart doc.now id }
-    ensures { Reads (says.models_member_in (root_tree doc.now) read name.now (part doc.now id)) result }
+    ensures { ReadsAs (λ (_ : Unit {0}). read.new) (says.models_member_in (root_tree doc.now) read.old name.now (part doc.now id)) result }
 {
-    let models = read_models(alloc, doc, name, id)?;
-    let waiting = waits(alloc, read.waiting, name, models.waiting)?;
-    Ok(MethodRead {
-        models: models.list,
-        waiting,
-        ..read
-    })
+    let NamedRead { list, waiting } = read_models(alloc, doc, name, id)?;
+    defer(alloc, &mut read.waiting, name, waiting)?;
+    read.models = list;
+    Ok(())
 }
 
 #[tactic(auto, unfolding(crate::specs::Methods::integration_member_in))]
@@ -335,20 +303,17 @@ fn add_integration(
     doc: &Doc,
     tables: &mut StatusTables,
     path: &str,
-    read: MethodRead,
+    read: &mut MethodRead,
     name: &str,
     id: NodeId,
-) -> Result<MethodRead, ApiFault>
+) -> Result<(), ApiFault>
     requires { IsPart doc.now id }
-    ensures { Reads (says.integration_member_in path.now read name.now (part doc.now id)) result }
+    ensures { ReadsAs (λ (_ : Unit {0}). read.new) (says.integration_member_in path.now read.old name.now (part doc.now id)) result }
 {
     let (integration, fault) = read_integration(alloc, doc, tables, path, name, id)?;
-    let waiting = waits(alloc, read.waiting, name, fault)?;
-    Ok(MethodRead {
-        integration: Some(integration),
-        waiting,
-        ..read
-    })
+    defer(alloc, &mut read.waiting, name, fault)?;
+    read.integration = Some(integration);
+    Ok(())
 }
 
 // Parameters, models and the integration.
@@ -357,12 +322,12 @@ fn add_inner(
     doc: &Doc,
     tables: &mut StatusTables,
     path: &str,
-    read: MethodRead,
+    read: &mut MethodRead,
     name: &str,
     id: NodeId,
-) -> Result<MethodRead, ApiFault>
+) -> Result<(), ApiFault>
     requires { IsPart doc.now id }
-    ensures { Reads (says.inner_member (root_tree doc.now) path.now read name.now (part doc.now id)) result }
+    ensures { ReadsAs (λ (_ : Unit {0}). read.new) (says.inner_member (root_tree doc.now) path.now read.old name.now (part doc.now id)) result }
 {
     if name == "parameters" {
         return add_parameters(alloc, doc, path, read, name, id);
@@ -432,10 +397,9 @@ pub fn read_method(
     let count = object(alloc, doc, verb, id)?;
     for i in 0..count {
         let (member, value) = member_at(doc, id, i);
-        read = match add_member(alloc, doc, tables, path, read, member, value) {
-            Ok(read) => read,
-            Err(fault) => return Err(below(alloc, member, fault)),
-        };
+        if let Err(fault) = add_member(alloc, doc, tables, path, &mut read, member, value) {
+            return Err(below(alloc, member, fault));
+        }
     }
     method_of(alloc, verb, read)
 }

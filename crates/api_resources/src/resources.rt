@@ -1,5 +1,5 @@
 // Resources.
-ghost use Rattle.std.specs.Prelude.{◌≡◌, ◌<◌, ◌+◌, ◌++◌, ◌∷◌, [], length, map, IfOk, MatchResult};
+ghost use Rattle.std.specs.Prelude.{◌≡◌, ◌<◌, ◌+◌, ◌++◌, ◌∷◌, [], length, map, IfOk, OnOk, MatchResult};
 ghost use Rattle.json_subset.specs.Documents.{IsPart, form, part, root_tree};
 ghost use Rattle.json_values.specs.Parts.{entries_of};
 ghost use Rattle.api_parts.specs.Reading.{Reads, ReadsAs, each, first_of};
@@ -9,13 +9,14 @@ ghost use Rattle.api_resources.specs.Paths.{HasTree, IsTold, IsTreeFor, own_faul
 use crate::integrations::is_verb;
 use crate::methods::read_method;
 use api_parts::{ApiCause, ApiFault, Method, Resource, below, no_memory};
+use api_reading::defer;
 use api_reading::values::{bad_member, copy, fault_here, member_at, object, unknown_member};
-use api_reading::waits;
 use gw_base::{Seq, Text};
 use json_subset::{Doc, NodeId};
-use pattern_tables::StatusTables;
 use resource_tree::{Tree, TreeFault};
+use status_table::StatusTables;
 use std::alloc::Global;
+use std::mem;
 
 /// The most resources of an API.
 const RESOURCES: u32 = 300;
@@ -44,29 +45,23 @@ fn is_entry(name: &str) -> bool
 
 fn with_method(
     alloc: Global,
-    read: VerbsRead,
+    read: &mut VerbsRead,
     name: &str,
     method: Method,
     fault: Option<ApiFault>,
-) -> Result<VerbsRead, ApiFault>
-    ensures { MatchResult result (λ r. r ≡ says.with_method read name.now (method, fault)) (λ e. e.cause ≡ ApiCause.Memory) }
+) -> Result<(), ApiFault>
+    ensures { MatchResult result (λ _. read.new ≡ says.with_method read.old name.now (method, fault)) (λ e. e.cause ≡ ApiCause.Memory) }
 {
-    let waiting = waits(alloc, read.waiting, name, fault)?;
-    let name = copy(alloc, name)?;
+    defer(alloc, &mut read.waiting, name, fault)?;
     let Ok(number) = u32::try_from(read.methods.as_slice().len()) else {
         return Err(no_memory(alloc));
     };
-    let mut verbs = read.verbs;
-    let mut methods = read.methods;
-    let Ok(()) = verbs.push((name, number)) else {
+    let name = copy(alloc, name)?;
+    let Ok(()) = read.verbs.push((name, number)) else {
         return Err(no_memory(alloc));
     };
-    match methods.push(method) {
-        Ok(()) => Ok(VerbsRead {
-            verbs,
-            methods,
-            waiting,
-        }),
+    match read.methods.push(method) {
+        Ok(()) => Ok(()),
         Err(_) => Err(no_memory(alloc)),
     }
 }
@@ -76,12 +71,12 @@ fn add_method(
     doc: &Doc,
     tables: &mut StatusTables,
     path: &str,
-    read: VerbsRead,
+    read: &mut VerbsRead,
     name: &str,
     id: NodeId,
-) -> Result<VerbsRead, ApiFault>
+) -> Result<(), ApiFault>
     requires { IsPart doc.now id }
-    ensures { Reads (says.verbs_member (root_tree doc.now) path.now read name.now (part doc.now id)) result }
+    ensures { ReadsAs (λ (_ : Unit {0}). read.new) (says.verbs_member (root_tree doc.now) path.now read.old name.now (part doc.now id)) result }
 {
     if !is_entry(name) {
         return Err(unknown_member(alloc, name));
@@ -109,10 +104,9 @@ fn read_verbs(
     let count = object(alloc, doc, path, id)?;
     for i in 0..count {
         let (member, value) = member_at(doc, id, i);
-        read = match add_method(alloc, doc, tables, path, read, member, value) {
-            Ok(read) => read,
-            Err(fault) => return Err(below(alloc, member, fault)),
-        };
+        if let Err(fault) = add_method(alloc, doc, tables, path, &mut read, member, value) {
+            return Err(below(alloc, member, fault));
+        }
     }
     Ok(read)
 }
@@ -139,28 +133,24 @@ fn or_later(first: Option<ApiFault>, later: Option<ApiFault>) -> Option<ApiFault
 
 fn with_resource(
     alloc: Global,
-    all: ResourcesRead,
+    all: &mut ResourcesRead,
     path: &str,
     fault: Option<TreeFault>,
     verbs: VerbsRead,
-) -> Result<ResourcesRead, ApiFault>
-    ensures { MatchResult result (λ r. r ≡ says.with_resource all path.now fault verbs) (λ e. e.cause ≡ ApiCause.Memory) }
+) -> Result<(), ApiFault>
+    ensures { MatchResult result (λ _. all.new ≡ says.with_resource all.old path.now fault verbs) (λ e. e.cause ≡ ApiCause.Memory) }
 {
     let VerbsRead {
         verbs,
         methods,
         waiting,
     } = verbs;
+    all.methods = methods;
     let inner = or_later(path_waiting(alloc, fault), waiting);
-    let waiting = waits(alloc, all.waiting, path, inner)?;
+    defer(alloc, &mut all.waiting, path, inner)?;
     let path = copy(alloc, path)?;
-    let mut list = all.list;
-    match list.push(Resource { path, verbs }) {
-        Ok(()) => Ok(ResourcesRead {
-            list,
-            methods,
-            waiting,
-        }),
+    match all.list.push(Resource { path, verbs }) {
+        Ok(()) => Ok(()),
         Err(_) => Err(no_memory(alloc)),
     }
 }
@@ -236,24 +226,15 @@ fn add_resource(
     doc: &Doc,
     tables: &mut StatusTables,
     fault: Option<TreeFault>,
-    all: ResourcesRead,
+    all: &mut ResourcesRead,
     name: &str,
     id: NodeId,
-) -> Result<ResourcesRead, ApiFault>
+) -> Result<(), ApiFault>
     requires { IsPart doc.now id }
-    ensures { Reads (says.resource_added (root_tree doc.now) fault all name.now (part doc.now id)) result }
+    ensures { ReadsAs (λ (_ : Unit {0}). all.new) (says.resource_added (root_tree doc.now) fault all.old name.now (part doc.now id)) result }
 {
-    let ResourcesRead {
-        list,
-        methods,
-        waiting,
-    } = all;
+    let methods = mem::replace(&mut all.methods, Seq::new(alloc));
     let verbs = read_verbs(alloc, doc, tables, methods, name, id)?;
-    let all = ResourcesRead {
-        list,
-        methods: Seq::new(alloc),
-        waiting,
-    };
     with_resource(alloc, all, name, fault, verbs)
 }
 
@@ -272,17 +253,17 @@ fn next_resource(
     tables: &mut StatusTables,
     paths: &[Text],
     built: &TreeRead,
-    all: ResourcesRead,
+    all: &mut ResourcesRead,
     member: Entry<'_>,
-) -> Result<ResourcesRead, ApiFault>
+) -> Result<(), ApiFault>
     requires part { IsPart doc.now member.value }
-    requires told { IsTold paths.now built.now.fault member.place all.waiting }
-    requires place { member.place ≡ length all.list }
+    requires told { IsTold paths.now built.now.fault member.place all.old.waiting }
+    requires place { member.place ≡ length all.old.list }
     requires within { member.place < length paths.now }
-    ensures read { Reads (says.resources_member (root_tree doc.now) paths.now all member.entry.name.now (part doc.now member.entry.value)) result }
-    ensures told { IfOk result (λ r. IsTold paths.now built.now.fault (member.entry.place + 1) r.waiting) }
-    ensures place { IfOk result (λ r. member.entry.place + 1 ≡ length r.list) }
-    ensures path { IfOk result (λ r. map says.path_of r.list ≡ map says.path_of all.list ++ member.entry.name.now ∷ []) }
+    ensures read { ReadsAs (λ (_ : Unit {0}). all.new) (says.resources_member (root_tree doc.now) paths.now all.old member.entry.name.now (part doc.now member.entry.value)) result }
+    ensures told { OnOk result (IsTold paths.now built.now.fault (member.entry.place + 1) all.new.waiting) }
+    ensures place { OnOk result (member.entry.place + 1 ≡ length all.new.list) }
+    ensures path { OnOk result (map says.path_of all.new.list ≡ map says.path_of all.old.list ++ member.entry.name.now ∷ []) }
 {
     let fault = own_fault(&built.fault, member.place);
     add_resource(alloc, doc, tables, fault, all, member.name, member.value)
@@ -340,10 +321,9 @@ fn read_each(
             name: member,
             value,
         };
-        read = match next_resource(alloc, doc, tables, paths, built, read, entry) {
-            Ok(read) => read,
-            Err(fault) => return Err(below(alloc, member, fault)),
-        };
+        if let Err(fault) = next_resource(alloc, doc, tables, paths, built, &mut read, entry) {
+            return Err(below(alloc, member, fault));
+        }
     }
     Ok(read)
 }

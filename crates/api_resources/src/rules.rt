@@ -2,19 +2,18 @@
 ghost use Rattle.std.specs.Prelude.{◌≡◌, MatchResult};
 ghost use Rattle.std.specs.Fmt.{decimal};
 ghost use Rattle.json_subset.specs.Documents.{IsPart, part};
-ghost use Rattle.api_parts.specs.Reading.{Reads};
+ghost use Rattle.api_parts.specs.Reading.{Reads, ReadsAs};
 ghost use Rattle.api_resources.specs.Rules as says;
 
-use crate::mapped::{Side, read_mappings};
+use crate::mapped::{MappingsRead, Side, read_mappings};
 use api_parts::{ApiCause, ApiFault, Mapping, ResponseRule, below, no_memory};
 use api_reading::values::{
     fault_here, item_at, list, member_at, missing_member, number, object, unknown_member,
 };
-use api_reading::{pattern, read_templates, waits};
+use api_reading::{defer, pattern, read_templates};
 use gw_base::{Seq, Shared, Text};
 use json_subset::{Doc, NodeId};
-use pattern_tables::StatusTables;
-use status_table::StatusTable;
+use status_table::{StatusTable, StatusTables};
 use std::alloc::Global;
 use vtl_reader::Template;
 
@@ -40,41 +39,46 @@ fn add_member(
     alloc: Global,
     doc: &Doc,
     tables: &mut StatusTables,
-    read: RuleRead,
+    read: &mut RuleRead,
     name: &str,
     id: NodeId,
-) -> Result<RuleRead, ApiFault>
+) -> Result<(), ApiFault>
     requires { IsPart doc.now id }
-    ensures { Reads (says.rule_member read name.now (part doc.now id)) result }
+    ensures { ReadsAs (λ (_ : Unit {0}). read.new) (says.rule_member read.old name.now (part doc.now id)) result }
 {
     if name == "pattern" {
-        let table = pattern(alloc, doc, tables, name, id)?;
-        return Ok(RuleRead {
-            pattern: Some(table),
-            ..read
-        });
+        read.pattern = Some(pattern(alloc, doc, tables, name, id)?);
+        return Ok(());
     }
     if name == "status" {
         let status = number(alloc, doc, 200, 599, name, id)?;
-        return Ok(RuleRead {
-            status: Some(status as u16),
-            ..read
-        });
+        read.status = Some(status as u16);
+        return Ok(());
     }
     if name == "parameters" {
-        let mappings = read_mappings(alloc, doc, Side::Response, "", name, id)?;
-        let waiting = waits(alloc, read.waiting, name, mappings.waiting)?;
-        return Ok(RuleRead {
-            parameters: mappings.list,
-            waiting,
-            ..read
-        });
+        return add_mappings(alloc, doc, read, name, id);
     }
     if name == "templates" {
-        let templates = read_templates(alloc, doc, name, id)?;
-        return Ok(RuleRead { templates, ..read });
+        read.templates = read_templates(alloc, doc, name, id)?;
+        return Ok(());
     }
     Err(unknown_member(alloc, name))
+}
+
+fn add_mappings(
+    alloc: Global,
+    doc: &Doc,
+    read: &mut RuleRead,
+    name: &str,
+    id: NodeId,
+) -> Result<(), ApiFault>
+    requires { IsPart doc.now id }
+    ensures { ReadsAs (λ (_ : Unit {0}). read.new) (says.rule_mappings read.old name.now (part doc.now id)) result }
+{
+    let MappingsRead { list, waiting } = read_mappings(alloc, doc, Side::Response, "", name, id)?;
+    defer(alloc, &mut read.waiting, name, waiting)?;
+    read.parameters = list;
+    Ok(())
 }
 
 fn rule_of(alloc: Global, read: RuleRead) -> Result<(ResponseRule, Option<ApiFault>), ApiFault>
@@ -121,36 +125,32 @@ fn read_rule(
     let count = object(alloc, doc, name, id)?;
     for i in 0..count {
         let (member, value) = member_at(doc, id, i);
-        read = match add_member(alloc, doc, tables, read, member, value) {
-            Ok(read) => read,
-            Err(fault) => return Err(below(alloc, member, fault)),
-        };
+        if let Err(fault) = add_member(alloc, doc, tables, &mut read, member, value) {
+            return Err(below(alloc, member, fault));
+        }
     }
     rule_of(alloc, read)
 }
 
 fn with_rule(
     alloc: Global,
-    all: RulesRead,
+    all: &mut RulesRead,
     name: &str,
     rule: ResponseRule,
     fault: Option<ApiFault>,
-) -> Result<RulesRead, ApiFault>
-    ensures { Reads (says.with_rule all name.now (rule, fault)) result }
+) -> Result<(), ApiFault>
+    ensures { ReadsAs (λ (_ : Unit {0}). all.new) (says.with_rule all.old name.now (rule, fault)) result }
 {
     let is_default = rule.pattern.is_none();
     if is_default && all.has_default {
         return Err(fault_here(alloc, ApiCause::TwoDefaults));
     }
-    let waiting = waits(alloc, all.waiting, name, fault)?;
-    let has_default = all.has_default || is_default;
-    let mut list = all.list;
-    match list.push(rule) {
-        Ok(()) => Ok(RulesRead {
-            list,
-            has_default,
-            waiting,
-        }),
+    defer(alloc, &mut all.waiting, name, fault)?;
+    if is_default {
+        all.has_default = true;
+    }
+    match all.list.push(rule) {
+        Ok(()) => Ok(()),
         Err(_) => Err(no_memory(alloc)),
     }
 }
@@ -159,12 +159,12 @@ fn add_rule(
     alloc: Global,
     doc: &Doc,
     tables: &mut StatusTables,
-    all: RulesRead,
+    all: &mut RulesRead,
     name: &str,
     id: NodeId,
-) -> Result<RulesRead, ApiFault>
+) -> Result<(), ApiFault>
     requires { IsPart doc.now id }
-    ensures { Reads (says.rules_member all name.now (part doc.now id)) result }
+    ensures { ReadsAs (λ (_ : Unit {0}). all.new) (says.rules_member all.old name.now (part doc.now id)) result }
 {
     let (rule, fault) = read_rule(alloc, doc, tables, name, id)?;
     with_rule(alloc, all, name, rule, fault)
@@ -200,10 +200,9 @@ pub fn read_rules(
     for i in 0..count {
         let value = item_at(doc, id, i);
         let item = item_name(alloc, i)?;
-        read = match add_rule(alloc, doc, tables, read, item.as_str(), value) {
-            Ok(read) => read,
-            Err(fault) => return Err(below(alloc, item.as_str(), fault)),
-        };
+        if let Err(fault) = add_rule(alloc, doc, tables, &mut read, item.as_str(), value) {
+            return Err(below(alloc, item.as_str(), fault));
+        }
     }
     Ok(read)
 }

@@ -29,7 +29,7 @@ use Rattle.method_answers.specs.Calls.{Call}
 use Rattle.method_answers.specs.Keys.{key_required}
 use Rattle.method_answers.specs.Outcomes.{answered_by, mapped_made, outcome_made, reply_made, ruled, stopped}
 use Rattle.method_answers.specs.Plans.{Planned, Way, admits, admitted, answered, checked, exchanges, goes, keyed, let_by, prepared, validated, with_key}
-use Rattle.method_checks.specs.MediaTypes.{media_type}
+use Rattle.media_types.specs.MediaTypes.{media_type}
 use Rattle.method_checks.specs.Missing.{missing_names}
 use Rattle.method_checks.specs.Validating.{Failed, failed_body, failed_by, failed_by_names, failed_check, failed_if, failed_parameters, model_for, parameters_of, refuses}
 use Rattle.method_flow.specs.declared.answers.Made.{Made}

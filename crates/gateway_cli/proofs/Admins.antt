@@ -3,7 +3,7 @@ use Rattle.std.proofs.Common.{◌≡◌, ◌<◌, ◌≤◌, inl, inr, ℕ, List
 use Rattle.std.specs.Io.KnownBytes.{Appends}
 use Rattle.gw_base.specs.Whole.{AppendsFront}
 use Rattle.book_rules.specs.declared.events.Limits.{Limits}
-use Rattle.play_script.specs.Coding.{lines_of}
+use Rattle.script_records.specs.Coding.{lines_of}
 use Rattle.play_script.specs.Play.{session_limits, too_long}
 use Rattle.serve_command.specs.Shelves.{Shelves}
 use Rattle.admin_command.specs.Ends.{AdminEnds, IsCutShort, WantsMemory}

@@ -10,16 +10,16 @@ use Rattle.http_edge.specs.Replies.{IsReply}
 use Rattle.http_framing.specs.declared.fault.EdgeFault.{EdgeFault}
 use Rattle.gate_walk.specs.Told.{ComesToOneThing}
 use Rattle.play_script.specs.Calls.{HasStatus, IsWhole, IsOther, IsNoWhole, IsNoReply, IsOutcome, IsNoOutcome, AreOutcomes, BreaksOutcomes}
-use Rattle.play_script.specs.Coding.{is_passed_over}
+use Rattle.script_records.specs.Coding.{is_passed_over}
 use Rattle.command_words.specs.declared.commands.Command.TheVariants.{Play, Load}
 use Rattle.gateway_cli.specs.Commands.{Outcome, OutcomeFront, HasOneOutcome, FrontsAreOfTheOutcome}
 use Rattle.load_command.specs.Loading.{Behind, GoesOn as LoadGoesOn, LoadedFront, LoadedWithin, Loads, load_lines, told_by}
 use Rattle.play_script.specs.Play.{Turn, Output, before, talked, IsTalk, Does, DoesOrNot, PassesOrDoes, IsTurn, GoesOn, Plays, IsFront, GoesOnInFront, PlaysFront, PlayedBy, Played, OpenedFrontBy, PlayedFrontBy, PlayedFront, opening_of, session_limits}
 use Rattle.play_session.specs.Sessions.{base_of}
-use Rattle.play_script.specs.Records.{record_in}
-use Rattle.play_script.specs.declared.records.LineFault.{LineFault}
-use Rattle.play_script.specs.declared.records.Record.{Record}
-use Rattle.play_script.specs.declared.records.Record.TheVariants.{PutText, PutDocument, Ask, Post, Call}
+use Rattle.script_records.specs.Records.{record_in}
+use Rattle.script_records.specs.declared.records.LineFault.{LineFault}
+use Rattle.script_records.specs.declared.records.Record.{Record}
+use Rattle.script_records.specs.declared.records.Record.TheVariants.{PutText, PutDocument, Ask, Post, Call}
 use Rattle.play_script.specs.declared.turns.End.{End}
 
 -- outcomes

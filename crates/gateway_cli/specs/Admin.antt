@@ -2,7 +2,7 @@
 use Rattle.std.specs.Prelude.{◌≡◌, ◌⊎◌, ℕ, nat_lt, Bool, true, false, List, length, codes, Option}
 use Rattle.gw_base.specs.Outside.{Rose}
 use Rattle.gw_base.specs.Whole.{AppendsFront}
-use Rattle.play_script.specs.Coding.{lines_of}
+use Rattle.script_records.specs.Coding.{lines_of}
 use Rattle.play_script.specs.Play.{script_limit, session_limits, too_long}
 use Rattle.serve_command.specs.Serving.{NotHeld}
 use Rattle.serve_command.specs.Shelves.{Shelves}

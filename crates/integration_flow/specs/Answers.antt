@@ -21,7 +21,7 @@ use Rattle.integration_flow.specs.Rendering.{rendered}
 use Rattle.integration_flow.specs.Stopping.{Flow}
 use Rattle.integration_flow.specs.declared.written.Written.{Written}
 use Rattle.integration_flow.specs.declared.stops.FlowStop.TheVariants.{Config}
-use Rattle.method_checks.specs.MediaTypes.{media_type}
+use Rattle.media_types.specs.MediaTypes.{media_type}
 use Rattle.resource_tree.specs.Parameters.{value_at}
 use Rattle.resource_tree.specs.declared.found.Found.{Found}
 

@@ -10,7 +10,7 @@ use Rattle.integration_flow.specs.Rendering.{rendered}
 use Rattle.integration_flow.specs.Stopping.{Flow}
 use Rattle.integration_flow.specs.declared.written.Written.{Written}
 use Rattle.integration_flow.specs.declared.stops.FlowStop.TheVariants.{Media}
-use Rattle.method_checks.specs.MediaTypes.{media_type}
+use Rattle.media_types.specs.MediaTypes.{media_type}
 use Rattle.resource_tree.specs.Parameters.{value_at}
 
 -- a body for whose media type no template stands is passed on, or not; that may depend on whether there are templates at all

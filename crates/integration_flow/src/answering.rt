@@ -16,7 +16,7 @@ use api_model::ResponseRule;
 use call_facts::{Answer, CallFacts, Request, Target, WireReply};
 use gateway_vars::ResponseRoots;
 use gw_base::Text;
-use method_checks::media_type;
+use media_types::media_type;
 use resource_tree::Found;
 use std::alloc::Global;
 use vtl_reader::Template;

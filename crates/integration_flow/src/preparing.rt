@@ -14,7 +14,7 @@ use crate::written::Written;
 use api_model::{Integration, Passthrough};
 use call_facts::Request;
 use gateway_vars::RequestRoots;
-use method_checks::media_type;
+use media_types::media_type;
 use method_flow::BUDGET;
 use std::alloc::Global;
 use vtl_eval::{Rendered, Stop, render};

@@ -4,7 +4,7 @@ ghost use Rattle.keeper_sqlite.specs.Answers.{IsOfTable};
 ghost use Rattle.keeper_sqlite.specs.Columns.{can_be_written};
 ghost use Rattle.keeper_sqlite.specs.Steps.{IsInside, IsOneStep};
 ghost use Rattle.keeper_sqlite.specs.Version.{IsOfMeta};
-ghost use Rattle.sqlite.specs.Files.{file_state};
+ghost use Rattle.sqlite.specs.Held.{state};
 
 use crate::fault::{StartFault, keep_fault, load_fault, start_fault};
 use crate::loading::put_answer;
@@ -12,13 +12,11 @@ use crate::statements::{ANY_TABLE, SCHEMA, TABLES, rows_of, upsert_into};
 use crate::writing::{join_can_be_written, join_values, values_of};
 use keeper_core::{JoinRow, KeepFault, LoadFault, Row, Table, Tables};
 use sqlite::types::ValueRef;
-use sqlite::{Connection, Error, File, FileStore, Transaction};
+use sqlite::{Alter, Connection, Error, File, FileStore, Transaction};
 use std::alloc::Global;
 
 /// The file, open.
 pub(crate) type Database = Connection<FileStore<File>>;
-
-type Change<'conn> = Transaction<'conn, FileStore<File>>;
 
 /// Opens the file, or makes it.
 pub(crate) fn open(rt: &HostRuntime, path: &str) -> Result<Database, StartFault>
@@ -32,7 +30,7 @@ pub(crate) fn open(rt: &HostRuntime, path: &str) -> Result<Database, StartFault>
 }
 
 /// Whether the file has no table yet.
-pub(crate) fn is_new(conn: &mut Database) -> Result<bool, StartFault>
+pub(crate) fn is_new<S: Alter>(conn: &mut Connection<S>) -> Result<bool, StartFault>
     requires { conn.old.in_transaction ≡ false }
     ensures closed { conn.new.in_transaction ≡ false }
     ensures err { IfErr result IsOfMeta }
@@ -43,7 +41,7 @@ pub(crate) fn is_new(conn: &mut Database) -> Result<bool, StartFault>
     }
 }
 
-fn run_schema(conn: &mut Database) -> Result<(), Error>
+fn run_schema<S: Alter>(conn: &mut Connection<S>) -> Result<(), Error>
     requires { conn.old.in_transaction ≡ false }
     ensures { conn.new.in_transaction ≡ false }
 {
@@ -53,7 +51,7 @@ fn run_schema(conn: &mut Database) -> Result<(), Error>
 }
 
 /// Makes the tables and the row of `meta`.
-pub(crate) fn make_tables(conn: &mut Database) -> Result<(), StartFault>
+pub(crate) fn make_tables<S: Alter>(conn: &mut Connection<S>) -> Result<(), StartFault>
     requires { conn.old.in_transaction ≡ false }
     ensures closed { conn.new.in_transaction ≡ false }
     ensures err { IfErr result IsOfMeta }
@@ -64,7 +62,10 @@ pub(crate) fn make_tables(conn: &mut Database) -> Result<(), StartFault>
     }
 }
 
-fn answer_of(conn: &mut Database, table: Table) -> Result<Vec<sqlite::Row>, LoadFault>
+fn answer_of<S: Alter>(
+    conn: &mut Connection<S>,
+    table: Table,
+) -> Result<Vec<sqlite::Row>, LoadFault>
     requires { conn.old.in_transaction ≡ false }
     ensures closed { conn.new.in_transaction ≡ false }
     ensures err { IfErr result (IsOfTable table) }
@@ -76,8 +77,8 @@ fn answer_of(conn: &mut Database, table: Table) -> Result<Vec<sqlite::Row>, Load
 }
 
 /// The rows of the table, in the order of their keys.
-pub(crate) fn load_table(
-    conn: &mut Database,
+pub(crate) fn load_table<S: Alter>(
+    conn: &mut Connection<S>,
     table: Table,
     tables: &mut Tables,
 ) -> Result<(), LoadFault>
@@ -90,7 +91,10 @@ pub(crate) fn load_table(
 }
 
 /// The rows of all tables.
-pub(crate) fn load_tables(alloc: Global, conn: &mut Database) -> Result<Tables, LoadFault>
+pub(crate) fn load_tables<S: Alter>(
+    alloc: Global,
+    conn: &mut Connection<S>,
+) -> Result<Tables, LoadFault>
     requires { conn.old.in_transaction ≡ false }
     ensures { conn.new.in_transaction ≡ false }
 {
@@ -101,9 +105,13 @@ pub(crate) fn load_tables(alloc: Global, conn: &mut Database) -> Result<Tables, 
     Ok(tables)
 }
 
-fn write(change: &mut Change<'_>, table: Table, values: &[ValueRef<'_>]) -> Result<(), KeepFault>
+fn write<S: Alter>(
+    change: &mut Transaction<'_, S>,
+    table: Table,
+    values: &[ValueRef<'_>],
+) -> Result<(), KeepFault>
     ensures same_reference { change.new.conn.ghost_name ≡ change.old.conn.ghost_name }
-    ensures inside { IsInside (file_state change.old.conn.now) (file_state change.new.conn.now) }
+    ensures inside { IsInside (state S.Store change.old.conn.now) (state S.Store change.new.conn.now) }
 {
     match change.execute(upsert_into(table), values) {
         Ok(_) => Ok(()),
@@ -111,19 +119,27 @@ fn write(change: &mut Change<'_>, table: Table, values: &[ValueRef<'_>]) -> Resu
     }
 }
 
-fn write_row(alloc: Global, change: &mut Change<'_>, row: &Row) -> Result<(), KeepFault>
+fn write_row<S: Alter>(
+    alloc: Global,
+    change: &mut Transaction<'_, S>,
+    row: &Row,
+) -> Result<(), KeepFault>
     requires { can_be_written row.now ≡ true }
     ensures same_reference { change.new.conn.ghost_name ≡ change.old.conn.ghost_name }
-    ensures inside { IsInside (file_state change.old.conn.now) (file_state change.new.conn.now) }
+    ensures inside { IsInside (state S.Store change.old.conn.now) (state S.Store change.new.conn.now) }
 {
     let values = values_of(alloc, row)?;
     write(change, row.table(), &values)
 }
 
-fn write_each(alloc: Global, change: &mut Change<'_>, rows: &[Row]) -> Result<(), KeepFault>
+fn write_each<S: Alter>(
+    alloc: Global,
+    change: &mut Transaction<'_, S>,
+    rows: &[Row],
+) -> Result<(), KeepFault>
     requires { All (λ row. can_be_written row ≡ true) rows.now }
     ensures same_reference { change.new.conn.ghost_name ≡ change.old.conn.ghost_name }
-    ensures inside { IsInside (file_state change.old.conn.now) (file_state change.new.conn.now) }
+    ensures inside { IsInside (state S.Store change.old.conn.now) (state S.Store change.new.conn.now) }
 {
     for row in rows {
         write_row(alloc, change, row)?;
@@ -131,9 +147,9 @@ fn write_each(alloc: Global, change: &mut Change<'_>, rows: &[Row]) -> Result<()
     Ok(())
 }
 
-fn finish(change: Change<'_>) -> Result<(), KeepFault>
+fn finish<S: Alter>(change: Transaction<'_, S>) -> Result<(), KeepFault>
     ensures closed { change.exit.0.now.in_transaction ≡ false }
-    ensures step { IsOneStep (file_state change.entry.conn.now) (file_state change.exit.0.now) result }
+    ensures step { IsOneStep (state S.Store change.entry.conn.now) (state S.Store change.exit.0.now) result }
 {
     match change.commit() {
         Ok(()) => Ok(()),
@@ -142,21 +158,29 @@ fn finish(change: Change<'_>) -> Result<(), KeepFault>
 }
 
 /// Writes the rows, the first one first, in one transaction.
-pub(crate) fn write_rows(alloc: Global, conn: &mut Database, rows: &[Row]) -> Result<(), KeepFault>
+pub(crate) fn write_rows<S: Alter>(
+    alloc: Global,
+    conn: &mut Connection<S>,
+    rows: &[Row],
+) -> Result<(), KeepFault>
     requires closed { conn.old.in_transaction ≡ false }
     requires fit { All (λ row. can_be_written row ≡ true) rows.now }
     ensures closed { conn.new.in_transaction ≡ false }
-    ensures step { IsOneStep (file_state conn.old) (file_state conn.new) result }
+    ensures step { IsOneStep (state S.Store conn.old) (state S.Store conn.new) result }
 {
     let mut change = conn.transaction();
     write_each(alloc, &mut change, rows)?;
     finish(change)
 }
 
-fn write_alone(conn: &mut Database, table: Table, values: &[ValueRef<'_>]) -> Result<(), KeepFault>
+fn write_alone<S: Alter>(
+    conn: &mut Connection<S>,
+    table: Table,
+    values: &[ValueRef<'_>],
+) -> Result<(), KeepFault>
     requires { conn.old.in_transaction ≡ false }
     ensures closed { conn.new.in_transaction ≡ false }
-    ensures step { IsOneStep (file_state conn.old) (file_state conn.new) result }
+    ensures step { IsOneStep (state S.Store conn.old) (state S.Store conn.new) result }
 {
     let mut change = conn.transaction();
     write(&mut change, table, values)?;
@@ -164,10 +188,14 @@ fn write_alone(conn: &mut Database, table: Table, values: &[ValueRef<'_>]) -> Re
 }
 
 /// Writes a join row in a transaction of its own, where its numbers can be written.
-pub(crate) fn write_join(alloc: Global, conn: &mut Database, row: &JoinRow) -> Result<(), KeepFault>
+pub(crate) fn write_join<S: Alter>(
+    alloc: Global,
+    conn: &mut Connection<S>,
+    row: &JoinRow,
+) -> Result<(), KeepFault>
     requires { conn.old.in_transaction ≡ false }
     ensures closed { conn.new.in_transaction ≡ false }
-    ensures step { IsOneStep (file_state conn.old) (file_state conn.new) result }
+    ensures step { IsOneStep (state S.Store conn.old) (state S.Store conn.new) result }
 {
     if !join_can_be_written(row) {
         return Err(KeepFault::Failed);

@@ -12,6 +12,7 @@ use crate::version::test_version;
 use crate::writing::can_be_written;
 use gw_base::Memory;
 use keeper_core::{JoinRow, KeepFault, Keeper, LoadFault, Row, Tables};
+use sqlite::{Alter, Connection};
 use std::alloc::Global;
 use std::marker::Model;
 use std::mem;
@@ -57,7 +58,7 @@ fn raise(count: u64) -> u64
 }
 
 // Makes the tables of a new store, and tests the version of another.
-fn prepare(alloc: Global, conn: &mut Database) -> Result<(), StartFault>
+fn prepare<S: Alter>(alloc: Global, conn: &mut Connection<S>) -> Result<(), StartFault>
     requires { conn.old.in_transaction ≡ false }
     ensures closed { conn.new.in_transaction ≡ false }
     ensures err { IfErr result IsOfMeta }

@@ -4,9 +4,10 @@ ghost use Rattle.keeper_core.specs.declared.table.Table.TheVariants.{Meta as met
 ghost use Rattle.keeper_sqlite.specs.Answers.{IsOfTable};
 ghost use Rattle.keeper_sqlite.specs.Version.{IsOfMeta, IsOther, first_other as first_other_of};
 
-use crate::database::{Database, load_table};
+use crate::database::load_table;
 use crate::fault::StartFault;
 use keeper_core::{LoadFault, MetaRow, Table, Tables};
+use sqlite::{Alter, Connection};
 use std::alloc::Global;
 
 /// The version of the layout of the file.
@@ -47,7 +48,10 @@ fn test_rows(rows: &[MetaRow]) -> Result<(), StartFault>
 }
 
 /// Tests that the file has the one row of this version.
-pub(crate) fn test_version(alloc: Global, conn: &mut Database) -> Result<(), StartFault>
+pub(crate) fn test_version<S: Alter>(
+    alloc: Global,
+    conn: &mut Connection<S>,
+) -> Result<(), StartFault>
     requires { conn.old.in_transaction ≡ false }
     ensures closed { conn.new.in_transaction ≡ false }
     ensures err { IfErr result IsOfMeta }

@@ -5,7 +5,7 @@ use Rattle.book_rules.specs.History.{Base}
 use Rattle.book_rules.specs.declared.events.Entry.{Entry}
 use Rattle.book_rules.specs.declared.events.Limits.{Limits}
 use Rattle.gw_base.specs.Whole.{AppendsFront}
-use Rattle.play_script.specs.Coding.{lines_left, lines_of}
+use Rattle.script_records.specs.Coding.{lines_left, lines_of}
 use Rattle.play_script.specs.Play.{IsTurn, Output, SaysFront, Turn}
 use Rattle.play_script.specs.declared.turns.End.{End}
 use Rattle.play_script.proofs.Playing.{says_front}

@@ -4,7 +4,7 @@ use Rattle.book_rules.specs.History.{Base}
 use Rattle.book_rules.specs.declared.events.Entry.{Entry}
 use Rattle.book_rules.specs.declared.events.Limits.{Limits}
 use Rattle.keeper_core.specs.Lists.{no_rows}
-use Rattle.play_script.specs.Coding.{lines_of}
+use Rattle.script_records.specs.Coding.{lines_of}
 use Rattle.play_script.specs.Play.{IsFront, IsTurn, Output, Turn, status_at}
 use Rattle.play_script.specs.declared.turns.End.{End}
 use Rattle.play_session.specs.Sessions.{base_of}

@@ -2,7 +2,7 @@
 ghost use Rattle.std.specs.Prelude.{◌≡◌, ◌≢◌, ◌+◌, ◌<◌, ◌≤◌, ◌^◌, ℕ, List, [], None, length, true, Err, IfOk, OnErr, IsErrOf, IsNone};
 ghost use Rattle.std.specs.Io.KnownBytes.{Appends};
 ghost use Rattle.gw_base.specs.Outside.{Rose};
-ghost use Rattle.play_script.specs.Coding.{lines_of};
+ghost use Rattle.script_records.specs.Coding.{lines_of};
 ghost use Rattle.play_script.specs.Play.{SaysFront, is_command_status, status_at};
 ghost use Rattle.play_session.specs.Sessions.{base_of};
 ghost use Rattle.load_command.specs.Lines.{call_lines};
@@ -12,8 +12,9 @@ use crate::lines::{call_line, first_lines};
 use crate::summary::sum_up;
 use book_rules::Limits;
 use gw_base::{Memory, Sink, SplitMix, Text, Words, write_all};
-use play_script::{End, PlayStop, first_line, play_line};
+use play_script::{End, PlayStop, play_line};
 use play_session::{Session, SessionFault};
+use script_records::first_line;
 use std::alloc::Global;
 use std::sync::Wait;
 

@@ -34,7 +34,7 @@ use Rattle.method_answers.specs.Outcomes.{answered_by, mapped_made, outcome_made
 use Rattle.method_answers.specs.Plans.{admitted, asked, authorized, call_at, checked, decided_by, fault_kind, judged, keyed, let_by, planned, prepared, refused_by, routed, validated, with_key, with_policy}
 use Rattle.method_answers.specs.declared.keys.Admission.{Admission}
 use Rattle.method_answers.specs.declared.keys.Admission.TheVariants.{Admitted, Refused}
-use Rattle.method_checks.specs.MediaTypes.{media_type}
+use Rattle.media_types.specs.MediaTypes.{media_type}
 use Rattle.method_checks.specs.Missing.{missing_names}
 use Rattle.method_checks.specs.Routing.{route_of}
 use Rattle.method_checks.specs.Tokens.{token_of}

@@ -20,7 +20,7 @@ use Rattle.integration_flow.specs.Answers.{answer_at, answer_by, answer_from, an
 use Rattle.integration_flow.specs.Headers.{content_type, mapped, replaced, typed, without, without_first, written_over}
 use Rattle.integration_flow.specs.Stopping.{Flow}
 use Rattle.integration_flow.specs.declared.written.Written.{Written}
-use Rattle.method_checks.specs.MediaTypes.{media_type}
+use Rattle.media_types.specs.MediaTypes.{media_type}
 use Rattle.resource_tree.specs.Parameters.{value_at}
 use Rattle.resource_tree.specs.declared.found.Found.{Found}
 use Rattle.wire_text.specs.Passing.{held_back, is_among, proxied}

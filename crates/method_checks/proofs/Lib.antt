@@ -1,7 +1,5 @@
 -- the best of the paths that match
 pub mod Best
--- a text without the blanks at its ends
-pub mod Ends
 -- parts of a path
 pub mod Parted
 pub mod Least

@@ -1,11 +1,7 @@
 -- the best of the paths that match
 pub mod Best
--- spaces and tabs
-pub mod Blanks
 -- what holds of routes and of what is missing
 pub mod Laws
--- the media type of a message
-pub mod MediaTypes
 -- the message that names what is missing
 pub mod Messages
 -- which required parameters a request lacks

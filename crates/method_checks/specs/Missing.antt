@@ -8,7 +8,7 @@ use Rattle.call_facts.specs.declared.target.Target.{Target}
 use Rattle.api_parts.specs.declared.parts.Parameter.{Parameter}
 use Rattle.api_parts.specs.declared.parts.ParameterPlace.{ParameterPlace}
 use Rattle.api_parts.specs.declared.parts.ParameterPlace.TheVariants.{Path, Query, Header}
-use Rattle.method_checks.specs.Blanks.{is_blank}
+use Rattle.media_types.specs.Blanks.{is_blank}
 
 -- the value of this name in this place: of a path its parameter, of a query its first pair, of the header fields the first, without regard to case
 abbrev pub value_in : Request → Target → Found → List ℕ → ParameterPlace → Option (List ℕ)

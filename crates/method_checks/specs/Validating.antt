@@ -17,7 +17,7 @@ use Rattle.api_model.specs.Getters.{model_of, or_second, validator_of}
 use Rattle.api_parts.specs.declared.parts.Method.{Method}
 use Rattle.api_parts.specs.declared.parts.Parameter.{Parameter}
 use Rattle.api_parts.specs.declared.parts.Validator.{Validator}
-use Rattle.method_checks.specs.MediaTypes.{media_type}
+use Rattle.media_types.specs.MediaTypes.{media_type}
 use Rattle.method_checks.specs.Messages.{missing_message}
 use Rattle.method_checks.specs.Missing.{missing_names}
 

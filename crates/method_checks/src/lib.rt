@@ -37,7 +37,7 @@
 //! What is promised, for every definition, request, target and path that was found: [`route`] answers `route_of` of
 //! `specs/Routing.antt`, and no other resources and methods than the definition's; [`token`] answers `token_of` of
 //! `specs/Tokens.antt`; [`validate`] answers `failed_check` of `specs/Validating.antt`, all names in its message to the byte;
-//! [`media_type`] answers `media_type` of `specs/MediaTypes.antt`. Want of memory alone has no cause. As laws ([`laws`]): what
+//! a body is checked by the model of its media type (`media_types`). Want of memory alone has no cause. As laws ([`laws`]): what
 //! a request hits is the best resource by the relation of `resource_tree`, with its parameters; it goes nowhere just where no
 //! path matches, or the best resource lacks both entries; a verb's own entry comes before that of `ANY`; each parameter that
 //! is missing is named once, in the order of the definition.
@@ -49,9 +49,7 @@
 #![tactic(auto)]
 
 mod authorizing;
-mod blanks;
 pub mod laws;
-mod media;
 mod messages;
 mod missing;
 mod routes;
@@ -61,7 +59,6 @@ mod tokens;
 mod validating;
 
 pub use authorizing::token;
-pub use media::media_type;
 pub use routes::Route;
 pub use routing::route;
 pub use tokens::Token;

@@ -4,10 +4,10 @@ ghost use Rattle.std.specs.Borrow.{Bor};
 ghost use Rattle.std.specs.Option.{option_map};
 ghost use Rattle.method_checks.specs.Missing.{is_lacking as is_lacking_of, is_missing as is_missing_of, missing_names as missing_names_of, value_in};
 
-use crate::blanks::are_blank;
 use api_model::{Parameter, ParameterPlace};
 use call_facts::{Request, Target, first_value, header_value};
 use gw_base::{Memory, Text};
+use media_types::are_blank;
 use resource_tree::Found;
 use std::alloc::Global;
 

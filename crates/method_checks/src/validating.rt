@@ -5,16 +5,16 @@ ghost use Rattle.json_subset.specs.Documents.{root_tree};
 ghost use Rattle.json_subset.specs.Reading.{json};
 ghost use Rattle.api_members.specs.Models.{schemas_in};
 ghost use Rattle.api_model.specs.Definition.{parts_of};
-ghost use Rattle.method_checks.specs.MediaTypes.{media_type as media_type_of};
+ghost use Rattle.media_types.specs.MediaTypes.{media_type as media_type_of};
 ghost use Rattle.method_checks.specs.Validating.{accepts as accepts_of, failed_body, failed_check, failed_parameters, model_for, refuses as refuses_of};
 
-use crate::media::media_type;
 use crate::messages::missing_message;
 use crate::missing::missing_names;
 use api_model::{Api, Parameter};
 use call_facts::{Kind, Request, Target};
 use gw_base::{Memory, Text};
 use json_subset::{Doc, Json, JsonFault};
+use media_types::media_type;
 use resource_tree::Found;
 use schema_draft4::{Schema, Verdict};
 use std::alloc::Global;

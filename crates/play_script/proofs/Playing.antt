@@ -6,7 +6,7 @@ use Rattle.std.proofs.KnownBytes.{Appends-nil, Appends-trans}
 use Rattle.gw_base.specs.Whole.{AppendsFront}
 use Rattle.book_rules.specs.declared.events.Entry.{Entry}
 use Rattle.book_rules.specs.History.{Base}
-use Rattle.play_script.specs.Coding.{lines_left}
+use Rattle.script_records.specs.Coding.{lines_left}
 use Rattle.book_rules.specs.declared.events.Limits.{Limits}
 use Rattle.play_session.specs.Sessions.{base_of}
 use Rattle.play_script.specs.Gathered.{Gathers}

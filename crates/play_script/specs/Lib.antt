@@ -1,16 +1,10 @@
 -- the calls of a script: a connection and its lines
 pub mod Calls
--- lines, fields and their coding
-pub mod Coding
--- the definitions that a script puts
-pub mod Definitions
 -- what is written of a text, and what is kept to be written
 pub mod Gathered
 -- what a script does, and what it prints
 pub mod Play
 -- the lines that are printed
 pub mod Printed
--- the records of a script
-pub mod Records
 -- why a play stops before its end
 pub mod Stops

@@ -15,14 +15,14 @@ use Rattle.gate_walk.specs.Told.{Came, ComesTo, reply_at, taken}
 use Rattle.play_session.specs.Sessions.{base_of}
 use Rattle.gate_walk.specs.declared.ended.SessionFull.{SessionFull}
 use Rattle.play_script.specs.Calls.{post_bytes, AreOutcomes, BreaksOutcomes, end_of, connection_lines}
-use Rattle.play_script.specs.Coding.{lines_of, is_passed_over}
-use Rattle.play_script.specs.Definitions.{Taken, taken as taken_of}
+use Rattle.script_records.specs.Coding.{lines_of, is_passed_over}
+use Rattle.script_records.specs.Definitions.{Taken, taken as taken_of}
 use Rattle.play_script.specs.Printed.{line_feed, reply_line, refused_line, full_line}
-use Rattle.play_script.specs.Records.{fails_in, record_in}
-use Rattle.play_script.specs.declared.records.Record.{Record}
-use Rattle.play_script.specs.declared.records.Record.TheVariants.{PutText, PutDocument, Ask, Post, Call}
-use Rattle.play_script.specs.declared.records.LineFault.{LineFault}
-use Rattle.play_script.specs.declared.records.LineFault.TheVariants.{BadRecord}
+use Rattle.script_records.specs.Records.{fails_in, record_in}
+use Rattle.script_records.specs.declared.records.Record.{Record}
+use Rattle.script_records.specs.declared.records.Record.TheVariants.{PutText, PutDocument, Ask, Post, Call}
+use Rattle.script_records.specs.declared.records.LineFault.{LineFault}
+use Rattle.script_records.specs.declared.records.LineFault.TheVariants.{BadRecord}
 use Rattle.play_script.specs.declared.turns.End.{End}
 use Rattle.play_script.specs.declared.turns.End.TheVariants as ends
 

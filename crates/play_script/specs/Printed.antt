@@ -6,8 +6,8 @@ use Rattle.admin_routes.specs.Asked.{fault_line}
 use Rattle.book_rules.specs.Printed.{refusal_name, usage_text}
 use Rattle.book_rules.specs.declared.replies.Reply.{Reply}
 use Rattle.book_rules.specs.declared.replies.Reply.TheVariants.{Entered, NoStage, Remembered, NotRemembered, Learned, Admitted, InvalidKey, Throttled, QuotaExceeded, Store, Left, Done, Deployed, Usage, Refused}
-use Rattle.play_script.specs.declared.records.LineFault.{LineFault}
-use Rattle.play_script.specs.declared.records.LineFault.TheVariants.{BadRecord, Definition}
+use Rattle.script_records.specs.declared.records.LineFault.{LineFault}
+use Rattle.script_records.specs.declared.records.LineFault.TheVariants.{BadRecord, Definition}
 use Rattle.gate_walk.specs.declared.ended.SessionFull.{SessionFull}
 
 abbrev pub line_feed : List ℕ

@@ -4,17 +4,14 @@ ghost use Rattle.play_script.specs.Printed.{refused_line as refused_line_of};
 ghost use Rattle.play_script.specs.Play.{commanded as commanded_of, put as put_of, IsCall, Does, IsTurn};
 
 use crate::connections::{post_bytes, talk};
-use crate::definitions::{take_document, take_text};
-use crate::fields::is_passed_over;
 use crate::outcomes::read_outcomes;
 use crate::printed::{full_line, refused_line, reply_line};
-use crate::reading::record_in;
-use crate::records::{LineFault, Record};
 use crate::turns::{End, Said};
 use api_model::Api;
 use book_rules::{Command, Event};
 use gw_base::{Bytes, Memory, Shared, Text};
 use play_session::{Reading, Session};
+use script_records::{LineFault, Record, is_passed_over, record_in, take_document, take_text};
 use std::alloc::Global;
 use std::sync::Wait;
 

@@ -29,37 +29,24 @@
 //!
 //! What is promised: what is written is `Plays` of `specs/Play.antt` to the byte, a definition that speaks of every script,
 //! or a front of it where a write is refused or memory is wanting; where the script's `keepfails` names the load, nothing is, and
-//! just that is told (`opening_of`, `names_load`); `specs/Coding.antt` says which lines it has,
-//! `specs/Records.antt` which records they are, and `specs/Printed.antt` and `specs/Calls.antt` what is printed.
-//! A definition is put where it is stated, which says `taken` of `specs/Definitions.antt`. [`join`] puts parts of a line together. Fields are coded and read by `record_fields`. The lines of a script, their records and
-//! what is printed of a command stand apart ([`first_line`], [`record_in`], [`take_document`], [`take_text`], [`reply_line`], [`refuse`]): the command `admin` takes
-//! them too; and so does a line by itself ([`play_line`]), of which the command `load` makes up many.
+//! just that is told (`opening_of`, `names_load`). `script_records` says which lines a script has and which records they are,
+//! `specs/Printed.antt` and `specs/Calls.antt` what is printed. [`join`] puts parts of a line together. What is printed of a command
+//! ([`reply_line`], [`refuse`]) serves the command `admin` too, and a line by itself ([`play_line`]) the command `load`, which makes up many.
 #![tactic(auto)]
 
 mod calls;
 mod connections;
-mod definitions;
-mod fields;
 mod joining;
 mod opening;
 mod outcomes;
-mod plain;
-mod plans;
 mod play;
 mod printed;
-mod reading;
-mod records;
-mod stages;
 mod stops;
 mod turns;
 
 pub use calls::{play_line, refuse};
-pub use definitions::{take_document, take_text};
-pub use fields::{first_line, is_passed_over};
 pub use joining::join;
 pub use play::play_within;
 pub use printed::{full_line, reply_line};
-pub use reading::record_in;
-pub use records::{LineFault, Record};
 pub use stops::PlayStop;
 pub use turns::{End, Said};

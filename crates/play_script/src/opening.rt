@@ -1,12 +1,11 @@
 // How a script opens.
 ghost use Rattle.std.specs.Prelude.{◌≡◌, ◌⊎◌, ◌+◌, ◌-◌, ◌≤◌, ◌<◌, ◌^◌, ◌∷◌, length, Some, IfOk, IfSome};
-ghost use Rattle.play_script.specs.Coding.{lines_of, lines_left};
-ghost use Rattle.play_script.specs.Records.{fails_in as fails_in_line};
+ghost use Rattle.script_records.specs.Coding.{lines_of, lines_left};
+ghost use Rattle.script_records.specs.Records.{fails_in as fails_in_line};
 ghost use Rattle.play_script.specs.Play.{opening_by, opening_of};
 
-use crate::fields::{first_line, is_passed_over};
-use crate::reading::fails_in;
 use gw_base::Memory;
+use script_records::{fails_in, first_line, is_passed_over};
 use std::alloc::Global;
 
 /// The keeper's calls that fail, and the lines behind what tells them, the first of which has this number.

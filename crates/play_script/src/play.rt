@@ -4,18 +4,18 @@ ghost use Rattle.std.specs.Io.KnownBytes.{Appends};
 ghost use Rattle.std.specs.String.{string_bytes};
 ghost use Rattle.gw_base.specs.Outside.{HasWriteCause, Rose};
 ghost use Rattle.gw_base.specs.Whole.{AppendsFront};
-ghost use Rattle.play_script.specs.Coding.{lines_left, lines_of};
+ghost use Rattle.script_records.specs.Coding.{lines_left, lines_of};
 ghost use Rattle.play_script.specs.Gathered.{Gathers};
 ghost use Rattle.play_script.specs.Play.{IsTurn, Plays, PlaysFront, PlaysOpened, OpenedFront, opening_of, names_load, status_at, SaysFront, is_command_status};
 
 use crate::calls::play_line;
-use crate::fields::first_line;
 use crate::opening::open;
 use crate::stops::PlayStop;
 use crate::turns::End;
 use book_rules::Limits;
 use gw_base::{Memory, Sink, WriteStop, write_all};
 use play_session::Session;
+use script_records::first_line;
 use std::alloc::Global;
 use std::sync::Wait;
 

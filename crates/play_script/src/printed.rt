@@ -4,12 +4,12 @@ ghost use Rattle.admin_routes.specs.Asked.{fault_line as fault_line_of};
 ghost use Rattle.play_script.specs.Printed.{reply_line as reply_line_of, line_fault as line_fault_of, refused_line as refused_line_of, full_line as full_line_of};
 
 use crate::joining::join;
-use crate::records::LineFault;
 use api_model::ApiFault;
 use book_rules::Reply;
 use gw_base::{Memory, Text};
 use play_session::SessionFull;
 use record_fields::{encode, encode_field};
+use script_records::LineFault;
 use std::alloc::Global;
 
 /// The line of a command's reply.

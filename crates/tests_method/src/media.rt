@@ -1,6 +1,6 @@
 // The media types of messages.
 use crate::calls::{Field, fields};
-use method_checks::media_type;
+use media_types::media_type;
 use std::test::Fail;
 
 /// Header fields, and the media type.

@@ -1,6 +1,6 @@
 use Rattle.std.proofs.Common.{refl, arith, ◌∙◌}
 use Rattle.std.proofs.lemmas.Grind.{common_steps}
-use Rattle.play_script.specs.Coding.{lines_of}
+use Rattle.script_records.specs.Coding.{lines_of}
 use Rattle.admin_command.proofs.Going.{on_err_of, begins, cut_short_at, stopped_at, said_at, finished, then_left}
 use Rattle.admin_command.proofs.carrying.carry_out_lines.Goals as goal
 

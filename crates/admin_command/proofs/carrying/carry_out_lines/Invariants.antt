@@ -1,5 +1,5 @@
 use Rattle.std.proofs.Common.{◌≡◌, ◌<◌, ◌+◌, ◌^◌, length}
-use Rattle.play_script.specs.Coding.{lines_of}
+use Rattle.script_records.specs.Coding.{lines_of}
 use Rattle.admin_command.proofs.Going.{Carrying}
 use Rattle.admin_command.proofs.carrying.carry_out_lines.Given as goal
 

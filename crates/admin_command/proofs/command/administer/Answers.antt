@@ -1,5 +1,5 @@
 use Rattle.std.proofs.Common.{inl}
-use Rattle.play_script.specs.Coding.{lines_of}
+use Rattle.script_records.specs.Coding.{lines_of}
 use Rattle.admin_command.proofs.Administered.{all_ends, cut_ends, over_store, unopened_cut, unopened_ends, unopened_memory}
 use Rattle.admin_command.proofs.command.administer.Goals as goal
 

@@ -3,4 +3,4 @@ use Rattle.keeper_sqlite.proofs.database.load_tables.Given as goal
 
 -- no transaction is open
 abbrev pub invariant-loop-table : goal.invariant-loop-table
-invariant-loop-table l = l.conn.in_transaction ≡ false
+invariant-loop-table g l = l.conn.in_transaction ≡ false

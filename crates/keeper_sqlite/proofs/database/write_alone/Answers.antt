@@ -1,15 +1,14 @@
 use Rattle.std.proofs.Common.{◌∙◌, sym}
-use Rattle.sqlite.specs.Files.{over_files}
 use Rattle.keeper_sqlite.proofs.Steps.{one_step, one_undone}
 use Rattle.keeper_sqlite.proofs.database.write_alone.Goals as goal
 
 pub returns-in_err-write-clause-step : goal.returns-in_err-write-clause-step
-returns-in_err-write-clause-step c =
+returns-in_err-write-clause-step g c =
     let names = sym (c.write.ensures.same_reference ∙ c.transaction-change.ensures.same_reference) in
-    one_undone over_files c.args.conn.now c.transaction-change.result.conn.now c.write.new.change.conn.now c.drop-change.new.self.0 c.conn-1.given.0 _ c.from_residual.ensures.0 c.transaction-change.ensures.begun c.write.ensures.inside c.drop-change.ensures.undone
+    one_undone g.S.Store c.args.conn.now c.transaction-change.result.conn.now c.write.new.change.conn.now c.drop-change.new.self.0 c.conn-1.given.0 _ c.from_residual.ensures.0 c.transaction-change.ensures.begun c.write.ensures.inside c.drop-change.ensures.undone
     c.drop-change.ensures.survives (sym (c.conn-1.given.1 names))
 
 pub returns-clause-step : goal.returns-clause-step
-returns-clause-step c =
+returns-clause-step g c =
     let names = sym (c.write.ensures.same_reference ∙ c.transaction-change.ensures.same_reference) in
-    one_step over_files c.args.conn.now c.transaction-change.result.conn.now c.write.new.change.conn.now c.finish.new.change.0 c.conn-2-1.given.0 _ c.transaction-change.ensures.begun c.write.ensures.inside c.finish.ensures.step (sym (c.conn-2-1.given.1 names))
+    one_step g.S.Store c.args.conn.now c.transaction-change.result.conn.now c.write.new.change.conn.now c.finish.new.change.0 c.conn-2-1.given.0 _ c.transaction-change.ensures.begun c.write.ensures.inside c.finish.ensures.step (sym (c.conn-2-1.given.1 names))

@@ -1,5 +1,5 @@
 use Rattle.std.proofs.Common.{◌≡◌, ◌≤◌, ◌+◌, length}
-use Rattle.play_script.specs.Coding.{lines_of}
+use Rattle.script_records.specs.Coding.{lines_of}
 use Rattle.load_command.proofs.Going.{Going}
 use Rattle.load_command.proofs.loading.play_lines.Given as goal
 

@@ -1,5 +1,5 @@
 use Rattle.std.proofs.Common.{◌≡◌, ◌≤◌, ◌+◌, length}
-use Rattle.play_script.specs.Coding.{lines_of}
+use Rattle.script_records.specs.Coding.{lines_of}
 use Rattle.play_script.specs.Play.{opening_from, opening_of}
 use Rattle.play_script.proofs.opening.open.Given as goal
 

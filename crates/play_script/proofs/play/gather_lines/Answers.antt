@@ -1,7 +1,7 @@
 use Rattle.std.proofs.Common.{arith, ◌∙◌, refl}
 use Rattle.std.proofs.lemmas.Grind.{common_steps}
 use Rattle.std.specs.String.{string_bytes}
-use Rattle.play_script.specs.Coding.{lines_of}
+use Rattle.script_records.specs.Coding.{lines_of}
 use Rattle.play_script.proofs.Playing.{on_err_of, begins, goes_on, wants, breaks, stopped_at, said_at, kept_at, finished, then_left}
 use Rattle.play_script.proofs.play.gather_lines.Goals as goal
 

@@ -1,6 +1,6 @@
 use Rattle.std.proofs.Common.{◌≡◌, ◌<◌, ◌+◌, ◌^◌, length}
 use Rattle.std.specs.String.{string_bytes}
-use Rattle.play_script.specs.Coding.{lines_of}
+use Rattle.script_records.specs.Coding.{lines_of}
 use Rattle.play_script.proofs.Playing.{Playing}
 use Rattle.play_script.proofs.play.gather_lines.Given as goal
 

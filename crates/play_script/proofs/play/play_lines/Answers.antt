@@ -1,7 +1,7 @@
 use Rattle.std.proofs.Common.{ℕ, List, [], subst}
 use Rattle.std.specs.Io.KnownBytes.{Appends}
 use Rattle.gw_base.specs.Whole.{AppendsFront}
-use Rattle.play_script.specs.Coding.{lines_of}
+use Rattle.script_records.specs.Coding.{lines_of}
 use Rattle.play_script.proofs.Playing.{on_err_of, is_left, says_all_of, says_front_of}
 use Rattle.play_script.proofs.play.play_lines.Goals as goal
 

@@ -1,0 +1,2 @@
+-- a text without the blanks at its ends
+pub mod Ends

@@ -1,2 +1,0 @@
--- one table more among those that are kept
-pub mod Kept

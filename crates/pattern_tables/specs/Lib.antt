@@ -1,2 +1,0 @@
--- the tables that are kept
-pub mod Keeping

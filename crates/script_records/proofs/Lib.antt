@@ -1,0 +1,4 @@
+-- the first line of a text
+pub mod Lines
+-- posts that are spelled plainly
+pub mod Spelled

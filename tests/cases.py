@@ -2,6 +2,7 @@
 """Runs the cases under tests/cases over the built program, and tells each difference.
 
 Usage: tests/cases.py [PROGRAM [PART]]; the program is built by `rt run` in crates/gateway. With PART only the files run whose path has it in it.
+       tests/cases.py --field FILE; prints what the file holds as one field of a script.
 
 The folder of a case tells its kind, and the end of its name the form; KINDS below has them all:
 
@@ -10,7 +11,7 @@ The folder of a case tells its kind, and the end of its name the form; KINDS bel
     check/NAME.json       with NAME.said: what `check` prints of the document
     check/NAME.table.jsonl    rows of {"name", "document", "said"}
     render/NAME.vtl       with NAME.body and NAME.said: what `render` prints
-    render/NAME.table.jsonl   rows of {"name", "template", "body", "said", "status", "steps"}
+    render/NAME.table.jsonl   rows of {"name", "template", "body", "said", "status", "steps", "bytes"}
     admin/NAME.commands   with NAME.said: what `admin` prints over a new store; with NAME.dump, if there is one, the tables behind it, as sqlite3's .dump
     words/NAME.table.jsonl    rows of {"name", "words", "files", "input", "said", "status"}: what any words of the command line print
 
@@ -19,12 +20,12 @@ a line. `status` is 0 where a row lacks it; `files` has the contents of files by
 empty. A text of a row is a string, in UTF-8, or {"hex": "c3 28"}, or {"repeat": TEXT, "times": N}, or a list of texts, which are joined. `said` is all of the
 standard output; in tables of `check`, and in rows of `render` whose status is not 0, it is one line without its line feed; in tables of `play`, `script` and
 `said` may be lists of lines. `steps` is how many steps of its budget a render takes: it then prints `said` behind loops that leave it just so many, and `stop
-Steps` behind those that leave one less.
+Steps` behind those that leave one less. `bytes` is the same for the bytes of texts that it makes, 17 at least and 16,777,216 at most.
 
 What is wanted comes from the standards and from docs/, never from the program. Each line of a NAME.said or NAME.dump, and each row of a table, is one check.
 Cases run side by side, each in a folder of its own and within a limit of time. Prints each difference, and last `N passed, M failed`; the status is 0 only
 where none failed."""
-import concurrent.futures, json, os, sqlite3, subprocess, sys, tempfile, urllib.parse
+import concurrent.futures, contextlib, json, os, sqlite3, subprocess, sys, tempfile, urllib.parse
 
 TOP = os.path.dirname(os.path.dirname(os.path.abspath(__file__)))
 CASES = os.path.join(TOP, "tests", "cases")
@@ -70,15 +71,29 @@ def escaped(text, start=0):
 # Runs
 
 
-def ran(program, words, given=b"", folder=None):
-    """The exit status of the program and all that it prints; the status is a text where it ends in no good way."""
+def ran(program, words, given, folder):
+    """The exit status of the program and all that it prints; the status is a text where it ends in no good way. Without an input each read of it fails."""
     try:
-        done = subprocess.run([program, *words], input=given, capture_output=True, cwd=folder, timeout=LIMIT)
+        if given is None:
+            with open_folder(folder) as none:
+                done = subprocess.run([program, *words], stdin=none, capture_output=True, cwd=folder, timeout=LIMIT)
+        else:
+            done = subprocess.run([program, *words], input=given, capture_output=True, cwd=folder, timeout=LIMIT)
     except subprocess.TimeoutExpired as late:
         return f"no end in {LIMIT} seconds", late.stdout or b""
     if done.returncode < 0:
         return f"signal {-done.returncode}", done.stdout
     return done.returncode, done.stdout
+
+
+@contextlib.contextmanager
+def open_folder(folder):
+    """A file of which each read fails: a folder."""
+    number = os.open(folder, os.O_RDONLY)
+    try:
+        yield number
+    finally:
+        os.close(number)
 
 
 # Files
@@ -184,9 +199,9 @@ def play_script(path):
     status = wanted_status(path, ".script")
     script = contents(path)
 
-    def run(program, _):
+    def run(program, folder):
         tally = Tally()
-        ended, came = ran(program, ["play"], script)
+        ended, came = ran(program, ["play"], script, folder)
         owners = lines_that_print(script, said)
         compare_lines(tally, path[: -len(".script")] + ".said", came, said, lambda at: f" (line {owners[at]} of the script)" if at < len(owners) else "")
         if ended != status:
@@ -218,38 +233,40 @@ def play_table(path):
 def check_file(path):
     said = beside(path, ".json", ".said")
     status = 0 if said.startswith(b"ok ") else 1
-    return [row_case(shown(path), ["check", path], {}, b"", said, status)]
+    return [row_case(shown(path), ["check", path], {}, None, said, status)]
 
 
 def check_table(path):
     for where, row in rows(path, ["document"]):
         said = text_of(row["said"]) + b"\n"
         status = 0 if said.startswith(b"ok ") else 1
-        yield row_case(where, ["check", "document"], {"document": text_of(row.get("document", ""))}, b"", said, status)
+        yield row_case(where, ["check", "document"], {"document": text_of(row.get("document", ""))}, None, said, status)
 
 
 def render_file(path):
     files = {"template": contents(path), "body": beside(path, ".vtl", ".body", b"")}
     said = beside(path, ".vtl", ".said")
-    return [row_case(shown(path), ["render", "template", "body"], files, b"", said, wanted_status(path, ".vtl"))]
+    return [row_case(shown(path), ["render", "template", "body"], files, None, said, wanted_status(path, ".vtl"))]
 
 
 def render_table(path):
-    for where, row in rows(path, ["template", "body", "steps"]):
+    for where, row in rows(path, ["template", "body", "steps", "bytes"]):
         status = row.get("status", 0)
         template, body = text_of(row.get("template", "")), text_of(row.get("body", ""))
         said = text_of(row["said"]) + (b"\n" if status else b"")
         yield render_case(where, template, body, said, status)
-        if "steps" in row:
-            yield render_case(f"{where} (just its steps)", idle(BUDGET - row["steps"]) + template, body, said, status)
-            yield render_case(f"{where} (a step less)", idle(BUDGET - row["steps"] + 1) + template, body, b"stop Steps\n", 1)
+        for what, budget, spent in (("steps", STEPS, idle), ("bytes", BYTES, texts_made)):
+            if what in row:
+                left = budget - row[what]
+                yield render_case(f"{where} (just its {what})", spent(left) + template, body, said, status)
+                yield render_case(f"{where} (one of its {what} less)", spent(left + 1) + template, body, b"stop %s\n" % what.capitalize().encode(), 1)
 
 
 def render_case(where, template, body, said, status):
-    return row_case(where, ["render", "template", "body"], {"template": template, "body": body}, b"", said, status)
+    return row_case(where, ["render", "template", "body"], {"template": template, "body": body}, None, said, status)
 
 
-BUDGET = 1_000_000  # steps of a render
+STEPS, BYTES = 1_000_000, 67_108_864  # of a render
 
 
 def idle(steps):
@@ -257,6 +274,14 @@ def idle(steps):
     turns = (steps - 9) // 999  # of 4 + 995 steps each; each loop takes 4 of its own
     inner = b"#foreach($idle in [1..%d])#foreach($idle in [1..995])$!none_such#end#end" % turns
     return inner + b"#foreach($idle in [1..%d])$!none_such#end##\n" % (steps - 8 - 999 * turns)
+
+
+def texts_made(count):
+    """A template that makes texts of just so many bytes and prints nothing: a doubled one of 33,554,416 and two parts of its last."""
+    doubled, last = 33_554_416, 16_777_216
+    text = b"#set($idle='0123456789abcdef')#foreach($i in [1..20])#set($idle=$idle+$idle)#end"
+    parts = b"#set($idle_part=$idle.substring(0,%d))#set($idle_part=$idle.substring(0,%d))" % (last, count - doubled - last)
+    return text + parts + b"##\n"
 
 
 def admin_commands(path):
@@ -293,7 +318,8 @@ def dumped(store):
 def words_table(path):
     for where, row in rows(path, ["words", "files", "input"]):
         files = {name: text_of(held) for name, held in row.get("files", {}).items()}
-        yield row_case(where, row["words"], files, text_of(row.get("input", "")), text_of(row["said"]), row.get("status", 0))
+        given = text_of(row["input"]) if "input" in row else None
+        yield row_case(where, row["words"], files, given, text_of(row["said"]), row.get("status", 0))
 
 
 KINDS = {
@@ -360,10 +386,20 @@ def main(program, part):
     return 1 if failed else 0
 
 
+def field(text):
+    """A text as a field of a script."""
+    if text in (b"", b"~"):
+        return "%7E" if text else "~"
+    return "".join(chr(byte) if 33 <= byte <= 126 and byte != 37 else f"%{byte:02X}" for byte in text)
+
+
 if __name__ == "__main__":
+    if sys.argv[1:2] == ["--field"] and len(sys.argv) == 3:
+        print(field(contents(sys.argv[2])))
+        sys.exit()
     given = sys.argv[1:] + [os.path.join(TOP, "crates/gateway/out/gateway"), ""][len(sys.argv) - 1 :]
     if len(given) != 2:
-        sys.exit("usage: tests/cases.py [PROGRAM [PART]]")
+        sys.exit("usage: tests/cases.py [PROGRAM [PART]] or --field FILE")
     try:
         sys.exit(main(os.path.abspath(given[0]), given[1]))
     except Bad as why:

@@ -12,7 +12,7 @@ The folder of a case tells its kind, and the end of its name the form; KINDS bel
     check/NAME.table.jsonl    rows of {"name", "document", "said"}
     render/NAME.vtl       with NAME.body and NAME.said: what `render` prints
     render/NAME.table.jsonl   rows of {"name", "template", "body", "said", "status", "steps", "bytes"}
-    admin/NAME.commands   with NAME.said: what `admin` prints over a new store; with NAME.dump, if there is one, the tables behind it, as sqlite3's .dump
+    admin/NAME.commands   with NAME.said: what `admin` prints over a new store; with NAME.dump, if there is one, the rows behind it: the INSERT lines of sqlite3's .dump, sorted
     words/NAME.table.jsonl    rows of {"name", "words", "files", "input", "said", "status"}: what any words of the command line print
 
 A file NAME.status beside a script, a document, a template or commands holds the exit status that is wanted, where it is not 0. A row is one JSON object on
@@ -305,12 +305,12 @@ def admin_commands(path):
 
 
 def dumped(store):
-    """The tables of a store as statements, a line each."""
+    """The rows of a store as statements, in the order of their texts."""
     if not os.path.exists(store):
         return b""
     base = sqlite3.connect(store)
     try:
-        return "".join(it + "\n" for it in base.iterdump()).encode()
+        return "".join(sorted(it + "\n" for it in base.iterdump() if it.startswith("INSERT"))).encode()
     finally:
         base.close()
 

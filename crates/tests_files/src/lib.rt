@@ -1,12 +1,10 @@
-//! Tests of the commands of the program that read files, through `run`: the bytes that are printed and the statuses.
+//! Tests of the commands of the program that read files, and of `load`, where a file or the output fails, through `run`: the bytes that
+//! are printed and the statuses. What else they print is under `tests/cases`.
 //!
 //! | Module | Shows |
 //! |---|---|
-//! | `checks` | documents with the lines that `check` prints |
-//! | `renders` | the command `render`: its files, limits and faults |
+//! | `failing` | calls for files and writes that fail |
 #![tactic(auto)]
 
 #[cfg(test)]
-mod checks;
-#[cfg(test)]
-mod renders;
+mod failing;

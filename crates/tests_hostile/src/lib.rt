@@ -11,10 +11,10 @@
 //! | a read of a script, or a write of what it prints, fails | `fault input`, `fault output` | `scripts` of `tests_cli` |
 //! | an exchange of an order fails or lapses | `AUTHORIZER_FAILURE`, `INTEGRATION_FAILURE`, `INTEGRATION_TIMEOUT` | `exchanges` |
 //! | a call of the keeper fails, each in turn | `fault keeper`; `store`, `STORE_FAILURE`, and what follows from a change that was not kept | `keepers` |
-//! | a template joins a text to itself 21 times, or 22 | the empty text, or `stop Bytes` | `renders` of `tests_files` |
-//! | a template has 1,000,000 steps, or one more | all its dots, or `stop Steps` | `renders` of `tests_files`; within an integration `documents` of `tests_cli` |
-//! | loops stand 64 deep, or 65 | they are read, or `TooDeep` | `templates` of `tests_render` |
-//! | a document has 10,485,760 opening brackets | `Depth(64)` | `json` of `tests_text` |
+//! | a template joins a text to itself 21 times, or 22 | the empty text, or `stop Bytes` | `tests/cases/render/documented.table.jsonl` |
+//! | a template has 1,000,000 steps, or one more | all its dots, or `stop Steps` | `tests/cases/render/documented.table.jsonl`; within an integration `documents` of `tests_cli` |
+//! | loops stand 64 deep, or 65 | they are read, or `TooDeep` | `tests/cases/render/limits.table.jsonl` |
+//! | a document has 1,048,576 opening brackets, a body 10,485,760 | `Depth(64)`; no document | `tests/cases/check/json.table.jsonl`, `tests/cases/render/json.table.jsonl` |
 //! | memory is refused | a front of what comes else | `tests_refused`, run by `bench/refused-memory` |
 //!
 //! `orders` and `played` are what the tests stand on.

@@ -118,18 +118,6 @@ impl Held {
     }
 }
 
-impl Change {
-    /// The row, what it holds, and the reply.
-    pub fn into_parts(self) -> (Row, Held, Reply)
-        ensures row { result.0 ≡ self.row }
-        ensures held { result.1 ≡ self.held }
-        ensures reply { result.2 ≡ self.reply }
-    {
-        let Change { row, held, reply } = self;
-        (row, held, reply)
-    }
-}
-
 /// The row in its table, and what it holds in the same place. There is room for both.
 pub fn put(tables: &mut Tables, ready: &mut Ready, row: Row, held: Held)
     requires ready { AreReady tables.old.lists ready.old }

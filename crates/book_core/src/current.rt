@@ -155,7 +155,7 @@ fn write<K: Keeper>(
     ensures err { OnErr result (current.new.tables.lists ≡ current.old.tables.lists) }
     ensures stays { OnErr result (Stays (K.facts keeper.old) (K.facts keeper.new)) }
 {
-    let (row, held, reply) = change.into_parts();
+    let Change { row, held, reply } = change;
     current.tables.reserve(row.table(), 1)?;
     reserve_held(&mut current.ready, &held)?;
     match keep(keeper, alloc, &row) {

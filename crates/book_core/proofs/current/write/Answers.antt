@@ -1,4 +1,4 @@
-use Rattle.std.proofs.Common.{◌≡◌, true, false, Some, Err, ◌∙◌, ap, subst}
+use Rattle.std.proofs.Common.{◌≡◌, true, false, Some, Err, ◌∙◌, ap}
 use Rattle.keeper_core.specs.declared.keeper.KeepFault.TheVariants.{Failed, Memory}
 use Rattle.book_core.specs.Keeps.{Went}
 use Rattle.book_core.proofs.Asking.{went_kept, went_lost, stays_as_it_was}
@@ -8,15 +8,13 @@ pub returns-in-Ok-clause-keeper : goal.returns-in-Ok-clause-keeper
 returns-in-Ok-clause-keeper g c =
     let before = g.K.Keeper.facts c.args.keeper.now in
     let now = g.K.Keeper.facts c.keep.new.keeper in
-    subst (λ row. Went false (Some row) true before now) c.into_parts-row.ensures.row
-    (went_kept c.into_parts-row.result.0 before now c.keep.result c.in-Ok.field-0 c.in-Ok.is c.keep.ensures.ok c.keep.ensures.staged c.keep.ensures.cause c.keep.ensures.planned)
+    went_kept c.args.change.row before now c.keep.result c.in-Ok.field-0 c.in-Ok.is c.keep.ensures.ok c.keep.ensures.staged c.keep.ensures.cause c.keep.ensures.planned
 
 pub returns-in-Err-Failed-clause-keeper : goal.returns-in-Err-Failed-clause-keeper
 returns-in-Err-Failed-clause-keeper g c =
     let before = g.K.Keeper.facts c.args.keeper.now in
     let now = g.K.Keeper.facts c.keep.new.keeper in
-    subst (λ row. Went false (Some row) false before now) c.into_parts-row.ensures.row
-    (went_lost c.into_parts-row.result.0 before now c.keep.result (c.in-Err-Failed.is ∙ ap Err c.in-Err-Failed.field-0-is) c.keep.ensures.err c.keep.ensures.staged c.keep.ensures.cause c.keep.ensures.planned)
+    went_lost c.args.change.row before now c.keep.result (c.in-Err-Failed.is ∙ ap Err c.in-Err-Failed.field-0-is) c.keep.ensures.err c.keep.ensures.staged c.keep.ensures.cause c.keep.ensures.planned
 
 pub returns-clause-stays : goal.returns-clause-stays
 returns-clause-stays g c =

@@ -1,16 +1,13 @@
-//! Tests of what authorizers are asked and of what their replies come to, by public calls alone.
+//! Tests of tokens that no connection carries, of what their authorizers are asked and how long they are waited for, and of want of memory: what no run
+//! of the built program shows. All else of authorizers is in `tests/cases/play`.
 //!
-//! ```text
-//! (Ends::Replied(200), "{}", 0, "Configuration")      // a row: how the exchange ends, the reply's body, and what it comes to
-//! ```
-//!
-//! | File | What its tables hold |
+//! | File | What it holds |
 //! |---|---|
-//! | `calls.rt` | calls and tokens, with the request to the byte; ends of exchanges, with the policy or the fault |
-//!
-//! Nothing is promised here: `authorizer_call` says what its calls answer, and this crate that they succeed, and that the answers
-//! are what was meant.
+//! | `calls.rt` | tokens with characters below 32, with the request to the byte; uris that no definition has; an exchange for which memory is wanting |
+//! | `tokens.rt` | a header of a blank, and one with a line feed |
 #![tactic(auto)]
 
 #[cfg(test)]
 mod calls;
+#[cfg(test)]
+mod tokens;

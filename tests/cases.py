@@ -185,10 +185,10 @@ def row_case(where, words, files, given, said, status):
 
 
 def pairs(came, wanted):
-    """What is compared of two pairs of a status and a text: the texts, or where only the statuses differ, these."""
-    if came[0] == wanted[0] or came[1] != wanted[1]:
-        return came[1], wanted[1]
-    return f"status {came[0]}", f"status {wanted[0]}"
+    """What is compared of two pairs of a status and a text: the texts, or where only the statuses differ or the program ended in no good way, these."""
+    if came[0] != wanted[0] and (came[1] == wanted[1] or isinstance(came[0], str)):
+        return f"status {came[0]}", f"status {wanted[0]}"
+    return came[1], wanted[1]
 
 
 # Kinds: each gives the cases of one file, each case a function of the program and a folder that gives a tally

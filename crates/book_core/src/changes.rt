@@ -28,6 +28,7 @@ pub enum Held {
 }
 
 /// A row to write, what it holds, and the reply where it is kept.
+#[derive(Drop)]
 pub struct Change {
     pub row: Row,
     pub held: Held,
@@ -57,16 +58,6 @@ impl Drop for Held {
             Held::Allows(_) => {}
             Held::Nothing => {}
         }
-    }
-}
-
-impl Drop for Change {
-    fn drop(self) {
-        let Change {
-            row: _,
-            held: _,
-            reply: _,
-        } = self;
     }
 }
 

@@ -37,12 +37,17 @@
 //! | the change was not kept | 500, `{"reply":"store"}` |
 //! | the body has not its form, or a definition a fault | 400, `{"refused":"BadRecord"}`, `{"refused":"Missing(version) at ~"}` |
 //! | no route has this verb and path | 404, `{"refused":"NoRoute"}` |
+//! | a page of another site made a browser send it | 403, `{"refused":"Origin"}` |
 //! | the body is too large | 413, `{"refused":"TooLarge"}` |
+//!
+//! Browsers send the field `origin` with every request of a page that is not a GET or HEAD. Its value is `http://` or
+//! `https://`, then `127.0.0.1`, `localhost` or `[::1]`, and perhaps a port, where the page is of this machine; any other
+//! value, such as `null`, refuses the request. A request without the field comes from no page.
 //!
 //! Parameters are taken as they are written: nothing is decoded, and a trailing slash is a segment without a byte, which no
 //! route has. Where the table gives no body, one that is sent is ignored.
 //!
-//! What is promised: each answer is that of the definition of its name (`order_of`, `route_in`, `asked_by`, `replied_made` in `specs/`); want of memory alone has no cause. As a law ([`laws`]), a route is found exactly where the verb is its own and the
+//! What is promised: each answer is that of the definition of its name (`order_of`, `route_in`, `asked_by`, `replied_made` in `specs/`); memory that runs out alone has no cause. As a law ([`laws`]), a route is found exactly where the verb is its own and the
 //! path has its literals in their places and one segment with a byte for each parameter.
 #![tactic(auto)]
 
@@ -50,6 +55,7 @@ mod answers;
 mod asking;
 pub mod laws;
 mod orders;
+mod origins;
 mod plans;
 mod routes;
 

@@ -4,6 +4,7 @@ ghost use Rattle.admin_routes.specs.Orders.{order_at as order_at_route, order_by
 
 use crate::answers::answer_refused;
 use crate::asking::ask_for;
+use crate::origins::has_foreign_origin;
 use crate::routes::{Route, find_route};
 use book_rules::Command;
 use call_facts::{Request, Target};
@@ -37,7 +38,7 @@ fn order_at(
 }
 
 /// What an administration request asks of the book, or how it is answered where it asks nothing: the size of its body is tested
-/// first, then its route, then its body's form.
+/// first, then whether a page of another site made a browser send it, then its route, then its body's form.
 pub fn order_of(
     alloc: Global,
     too_large: bool,
@@ -48,6 +49,9 @@ pub fn order_of(
 {
     if too_large {
         return Ok(Err(answer_refused(alloc, 413, "TooLarge")?));
+    }
+    if has_foreign_origin(request.headers.as_slice()) {
+        return Ok(Err(answer_refused(alloc, 403, "Origin")?));
     }
     let route = find_route(alloc, request.method.as_str(), target)?;
     order_at(alloc, route, request.body.as_slice())

@@ -4,7 +4,8 @@ use Rattle.std.specs.Prelude.{IfSome}
 use Rattle.std.specs.Option.{option_map}
 use Rattle.admin_routes.specs.Answers.{replied_made}
 use Rattle.admin_routes.specs.Asked.{Asked, asked_by}
-use Rattle.admin_routes.specs.Orders.{order_at, order_by, order_of}
+use Rattle.admin_routes.specs.Origins.{has_foreign_origin}
+use Rattle.admin_routes.specs.Orders.{order_at, order_by, order_from, order_of}
 use Rattle.admin_routes.specs.Routes.{is_admin, route_in, segments_of}
 use Rattle.admin_routes.specs.declared.routes.Route.{Route}
 use Rattle.api_model.specs.Definition.{Definition}
@@ -232,9 +233,13 @@ of_route : (route : Option Route) (body : List ℕ) → IsErrFree (order_at rout
 of_route None body = tt
 of_route (Some route) body = of_order (asked_by route body)
 
+of_sender : (foreign : Bool) (r : Request) (target : Target) → IsErrFree (order_from foreign r target)
+of_sender true r target = tt
+of_sender false r target = of_route (route_in r.method (segments_of target)) r.body
+
 of_request : (large : Bool) (r : Request) (target : Target) → IsErrFree (order_of large r target)
 of_request true r target = tt
-of_request false r target = of_route (route_in r.method (segments_of target)) r.body
+of_request false r target = of_sender (has_foreign_origin r.headers) r target
 
 on_order : (arn : List ℕ) (m : Message) (order : Result Command Made) → IsErrFree order → EachBehind (Told arn) [] (administered m order)
 on_order arn m (Ok command) none = λ kept reply. on_leave arn m (replied_made reply) (took (Admin m.moment command) kept reply ∷ []) tt

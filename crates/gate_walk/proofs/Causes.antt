@@ -2,7 +2,8 @@
 use Rattle.std.proofs.Common.{◌≡◌, ℕ, ◌==◌, Bool, true, false, List, Option, Some, None, Result, Ok, Err, refl}
 use Rattle.admin_routes.specs.Answers.{json_answer, json_made, replied_made, reply_status}
 use Rattle.admin_routes.specs.Asked.{Asked, asked_by}
-use Rattle.admin_routes.specs.Orders.{order_at, order_by, order_of}
+use Rattle.admin_routes.specs.Origins.{has_foreign_origin}
+use Rattle.admin_routes.specs.Orders.{order_at, order_by, order_from, order_of}
 use Rattle.admin_routes.specs.Routes.{is_admin, route_in, segments_of}
 use Rattle.admin_routes.specs.declared.routes.Route.{Route}
 use Rattle.backend_core.specs.declared.request.WireRequest.{WireRequest}
@@ -120,9 +121,13 @@ of_route : (route : Option Route) (body : List ℕ) → IsErrNamed (order_at rou
 of_route None body = of_json 404 _
 of_route (Some route) body = of_order (asked_by route body)
 
+of_sender : (foreign : Bool) (r : Request) (target : Target) → IsErrNamed (order_from foreign r target)
+of_sender true r target = of_json 403 _
+of_sender false r target = of_route (route_in r.method (segments_of target)) r.body
+
 of_request : (large : Bool) (r : Request) (target : Target) → IsErrNamed (order_of large r target)
 of_request true r target = of_json 413 _
-of_request false r target = of_route (route_in r.method (segments_of target)) r.body
+of_request false r target = of_sender (has_foreign_origin r.headers) r target
 
 on_order : (m : Message) (order : Result Command Made) → IsErrNamed order → Each (Named m) false (administered m order)
 on_order m (Ok command) names = λ reply. on_leave m (replied_made reply) (of_json (reply_status reply) _)

@@ -8,200 +8,31 @@ has a limit of its own, so it ends whatever the program does. The store begins e
 over HTTP, by a program of its own that is shut down over HTTP, too; what is expected is said to the byte by docs/HTTP.md, docs/ADMIN.md,
 docs/STORE.md and docs/SCRIPT.md. Nothing is sent that the server would leave unread where it closes a connection: the system would then reset it, and the
 answer might be lost."""
-import json, os, queue, signal, socket, sqlite3, struct, subprocess, sys, tempfile, threading, time
+import http.server, json, os, queue, shutil, signal, socket, sqlite3, struct, subprocess, sys, tempfile, threading, time
 
-TOP = os.path.dirname(os.path.dirname(os.path.abspath(__file__)))
-LANES = 4
-WAIT = 60  # seconds, of each wait
-SILENCE = 30  # seconds that the server gives a client for a message
-
-CALL = b"POST /hello/v1 HTTP/1.1\r\nhost: localhost\r\ncontent-length: 3\r\n\r\nAnn"
-LAST = b"POST /hello/v1 HTTP/1.1\r\nhost: localhost\r\nconnection: close\r\ncontent-length: 3\r\n\r\nAnn"
-HEAD = b"HEAD /hello/v1 HTTP/1.1\r\nhost: localhost\r\n\r\n"
-
-
-def own_answer(status, cause, message, closes=False, head_only=False):
-    """The bytes of one of the gateway's own answers."""
-    return caused_answer(status, cause, b'{"message":"%s"}' % message, closes, head_only)
-
-
-def caused_answer(status, cause, body, closes=False, head_only=False):
-    """The same with a body of its API."""
-    head = b"HTTP/1.1 %s\r\ncontent-type: application/json\r\nx-gateway-cause: %s\r\n" % (status, cause)
-    close = b"connection: close\r\n" if closes else b""
-    return head + close + b"content-length: %d\r\n\r\n" % len(body) + (b"" if head_only else body)
-
-
-def edge_answer(status):
-    """The bytes of an answer to what is no message."""
-    return b"HTTP/1.1 %s\r\nconnection: close\r\ncontent-length: 0\r\n\r\n" % status
-
-
-def json_answer(status, body, closes=False):
-    """The bytes of an answer of the administration."""
-    close = b"connection: close\r\n" if closes else b""
-    return b"HTTP/1.1 %s\r\ncontent-type: application/json\r\n%scontent-length: %d\r\n\r\n%s" % (status, close, len(body), body)
-
-
-def text_answer(body, closes=False):
-    """The bytes of a text API's answer."""
-    close = b"connection: close\r\n" if closes else b""
-    return b"HTTP/1.1 200 OK\r\ncontent-type: text/plain\r\n%scontent-length: %d\r\n\r\n%s" % (close, len(body), body)
-
-
-def request(verb, path, body=b"", last=False):
-    close = b"connection: close\r\n" if last else b""
-    length = b"content-length: %d\r\n" % len(body) if body else b""
-    return b"%s %s HTTP/1.1\r\nhost: localhost\r\n%s%s\r\n%s" % (verb, path, close, length, body)
-
-
-def no_stage(**kind):
-    return own_answer(b"403 Forbidden", b"UNKNOWN_STAGE", b"Unknown stage", **kind)
-
-
-class Wrong(Exception):
-    """Something else came than what was expected."""
-
-
-def expect(what, got, wanted):
-    if got == wanted:
-        return
-    if isinstance(wanted, bytes):
-        same = len(os.path.commonprefix([got, wanted]))
-        raise Wrong(f"{what}: the same for {same} bytes, then {got[same : same + 100]} in place of {wanted[same : same + 100]}")
-    raise Wrong(f"{what}: {got} in place of {wanted}")
-
-
-class Client:
-    """A connection to the server."""
-
-    def __init__(self, port):
-        self.socket = socket.create_connection(("127.0.0.1", port), timeout=WAIT)
-        self.socket.setsockopt(socket.IPPROTO_TCP, socket.TCP_NODELAY, 1)
-
-    def __enter__(self):
-        return self
-
-    def __exit__(self, *_):
-        self.socket.close()
-
-    def send(self, piece):
-        self.socket.settimeout(WAIT)
-        self.socket.sendall(piece)
-
-    def read(self, most):
-        """At most so many bytes, fewer only where the server closed the connection."""
-        got, end = b"", time.monotonic() + WAIT
-        while len(got) < most:
-            left = end - time.monotonic()
-            if left <= 0:
-                raise Wrong(f"no more came in {WAIT} seconds behind {len(got)} bytes, which end in {got[-100:]}")
-            self.socket.settimeout(left)
-            try:
-                piece = self.socket.recv(min(65536, most - len(got)))
-            except socket.timeout:
-                continue
-            if not piece:
-                break
-            got += piece
-        return got
-
-    def has_answer(self, what, wanted):
-        """This answer comes, and the connection may go on."""
-        expect(what, self.read(len(wanted)), wanted)
-
-    def has_last(self, what, wanted):
-        """This comes, and nothing behind it: the server closes the connection."""
-        expect(what, self.read(len(wanted) + 1), wanted)
-
-    def calls(self, what, request, wanted):
-        self.send(request)
-        self.has_answer(what, wanted)
-
-
-class Server:
-    """The program, listening, in a folder of its own, over a store there."""
-
-    def __init__(self, program, room, store="orders.store", lanes=LANES):
-        self.program, self.room, self.store, self.lanes, self.process, self.port = program, room, store, lanes, None, None
-
-    def run(self, *words, lines=b""):
-        """The program with these words and this input, which ends by itself: its status, and what it prints."""
-        ended = subprocess.run([self.program, *words], cwd=self.room, input=lines, capture_output=True, timeout=WAIT)
-        return ended.returncode, ended.stdout
-
-    def start(self):
-        """On a port that was free. Where another program took it in between, on another one."""
-        for _ in range(5):
-            with socket.socket() as probe:
-                probe.bind(("127.0.0.1", 0))
-                self.port = probe.getsockname()[1]
-            words = [self.program, "serve", self.store, str(self.port), str(self.lanes)]
-            with open(f"{self.room}/output", "wb") as output:
-                self.process = subprocess.Popen(words, cwd=self.room, stdin=subprocess.DEVNULL, stdout=output, stderr=subprocess.PIPE)
-            line = self.first_line()
-            if line == f"listening on 127.0.0.1:{self.port} with {self.lanes} lanes\n".encode():
-                return
-            told = self.end()
-            if told != b"fault port\n":
-                raise Wrong(f"the first line of standard error is {line}, and standard output has {told}")
-        raise Wrong("no free port in five tries")
-
-    def first_line(self):
-        """The first line of its standard error, which is read on to its end, so that the program never waits for a reader."""
-        lines, process = queue.Queue(), self.process
-
-        def read():
-            for line in process.stderr:
-                lines.put(line)
-            lines.put(b"")
-
-        threading.Thread(target=read, daemon=True).start()
-        try:
-            return lines.get(timeout=WAIT)
-        except queue.Empty:
-            raise Wrong(f"no line on standard error in {WAIT} seconds")
-
-    def ends_by_itself(self):
-        """Waits until it ends: its status, and what it printed."""
-        status = self.process.wait(WAIT)
-        self.process = None
-        with open(f"{self.room}/output", "rb") as output:
-            return status, output.read()
-
-    def end(self):
-        """Ends it, and gives what it printed."""
-        if self.process is None:
-            return b""
-        self.process.kill()
-        self.process.wait(WAIT)
-        self.process = None
-        with open(f"{self.room}/output", "rb") as output:
-            return output.read()
-
-
-def at_once(count, work):
-    """Does the work in so many threads, and tells the first that went wrong."""
-    faults, begin = queue.Queue(), threading.Barrier(count)
-
-    def one(number):
-        try:
-            begin.wait(WAIT)
-            work(number)
-        except Exception as fault:
-            faults.put(f"client {number}: {fault}")
-
-    threads = [threading.Thread(target=one, args=(number,), daemon=True) for number in range(count)]
-    for thread in threads:
-        thread.start()
-    end = time.monotonic() + 4 * WAIT
-    for thread in threads:
-        thread.join(max(0.0, end - time.monotonic()))
-    if any(thread.is_alive() for thread in threads):
-        raise Wrong(f"a client was not done in {4 * WAIT} seconds")
-    if not faults.empty():
-        raise Wrong(faults.get())
-
+import shared_lanes
+from harness import (
+    CALL,
+    DONE,
+    HEAD,
+    LANES,
+    LAST,
+    TOP,
+    WAIT,
+    Client,
+    Server,
+    Wrong,
+    at_once,
+    caused_answer,
+    edge_answer,
+    expect,
+    free_port,
+    json_answer,
+    no_stage,
+    own_answer,
+    request,
+    text_answer,
+)
 
 # The tests.
 
@@ -287,43 +118,12 @@ def a_body_that_is_too_large_is_answered_413(server):
         client.has_last("the answer", own_answer(b"413 Payload Too Large", b"REQUEST_TOO_LARGE", b"Request Entity Too Large", closes=True))
 
 
-def others_are_served_beside(server, silent):
-    """Whether calls on further connections are answered well before the server gives up who says nothing; and then these are still heard."""
-    begun = time.monotonic()
-    for turn in range(8):
-        with Client(server.port) as client:
-            client.send(LAST)
-            client.has_last(f"call {turn} beside clients that say nothing", no_stage(closes=True))
-    if time.monotonic() - begun > SILENCE / 2:
-        return False
-    for client in silent:
-        client.send(LAST)
-        client.has_last("a client that had said nothing", no_stage(closes=True))
-    return True
-
-
-def clients_that_say_nothing_keep_their_own_lane_alone(server):
-    """All lanes but one wait for a client that says nothing. Connections are accepted in their order, so once a later one is answered each
-    of these has its lane. A machine that is slow for a while gets three tries."""
-    for _ in range(3):
-        silent = [Client(server.port) for _ in range(LANES - 1)]
-        try:
-            if others_are_served_beside(server, silent):
-                return
-        finally:
-            for client in silent:
-                client.socket.close()
-    raise Wrong(f"further calls took more than {SILENCE // 2} seconds, three times")
-
-
 def a_second_program_at_the_port_ends_with_3(server):
     expect("status and output", server.run("serve", "other.store", str(server.port), str(LANES)), (3, b"fault port\n"))
     with Client(server.port) as client:
         client.send(LAST)
         client.has_last("the first program's answer", no_stage(closes=True))
 
-
-DONE = json_answer(b"200 OK", b'{"reply":"done"}')
 
 # What an API is made by, each request with its answer: all of them change the tables.
 MADE = [
@@ -389,10 +189,58 @@ def made_called_and_shut_down(other):
     expect("status and output", other.ends_by_itself(), (0, line))
 
 
-def free_port():
-    with socket.socket() as probe:
-        probe.bind(("127.0.0.1", 0))
-        return str(probe.getsockname()[1])
+# A page that asks for each change that a browser sends without a question, and says when all are answered.
+PAGE = b'''<!doctype html><title>tries</title><script>
+const changes = ["apis/hello/deployments", "apis/hello/stages/v1/promote", "apis/hello/stages/v1/flush", "plans/p/keys/k/grant", "shutdown"];
+const ask = change => fetch("http://127.0.0.1:%d/_admin/" + change, {method: "POST", mode: "no-cors", body: "7"});
+Promise.allSettled(changes.map(ask)).then(all => fetch("/done?" + all.map(one => one.status).join()));
+</script>'''
+
+
+class Site(http.server.BaseHTTPRequestHandler):
+    """A site that shows this page, and notes what is asked of it."""
+
+    def do_GET(self):
+        self.server.asked.put(self.path)
+        self.send_response(200)
+        self.send_header("content-type", "text/html")
+        self.end_headers()
+        self.wfile.write(self.server.page)
+
+    def log_message(self, *_):
+        pass
+
+
+def a_page_of_another_site_administers_nothing(server):
+    """By headless Chromium, where it is installed: the page is of a name that is bound to this machine."""
+    browser = shutil.which("chromium")
+    if not browser:
+        return
+    site = http.server.ThreadingHTTPServer(("127.0.0.1", 0), Site)
+    site.asked = queue.Queue()
+    threading.Thread(target=site.serve_forever, daemon=True).start()
+    with tempfile.TemporaryDirectory() as room:
+        other = Server(server.program, room)
+        try:
+            other.start()
+            with Client(other.port) as client:
+                for asked, answer in MADE:
+                    client.calls(f"to {asked[:60]}", asked, answer)
+            site.page = PAGE % other.port
+            words = ["--headless", "--no-sandbox", "--disable-gpu", f"--user-data-dir={room}/profile", "--host-resolver-rules=MAP site.example 127.0.0.1"]
+            page = subprocess.Popen([browser, *words, f"http://site.example:{site.server_port}/"], stdout=subprocess.DEVNULL, stderr=subprocess.DEVNULL)
+            try:
+                while not (path := site.asked.get(timeout=WAIT)).startswith("/done"):
+                    pass
+            finally:
+                page.kill()
+                page.wait(WAIT)
+            expect("what the page came to", path, "/done?" + ",".join(5 * ["fulfilled"]))
+            with Client(other.port) as client:
+                client.calls("the next deployment", MADE[1][0], json_answer(b"200 OK", b'{"reply":"deployed 2"}'))
+        finally:
+            other.end()
+            site.shutdown()
 
 
 def rows_of(path, table):
@@ -1240,9 +1088,9 @@ TESTS = [
     a_body_in_chunks_is_taken_whole,
     a_broken_chunk_is_answered_400,
     a_body_that_is_too_large_is_answered_413,
-    clients_that_say_nothing_keep_their_own_lane_alone,
     a_second_program_at_the_port_ends_with_3,
     an_api_is_made_called_and_shut_down_over_http,
+    a_page_of_another_site_administers_nothing,
     a_program_that_is_killed_is_found_again_in_its_store,
     a_second_program_over_a_store_ends_with_3_and_loses_nothing,
     a_store_that_was_administered_is_served,
@@ -1290,7 +1138,7 @@ def main():
                 failed = 1
             else:
                 passed = 1
-                for test in TESTS:
+                for test in TESTS[:-1] + shared_lanes.TESTS + TESTS[-1:]:
                     if try_one(test.__name__, lambda: test(server)):
                         passed += 1
                     else:

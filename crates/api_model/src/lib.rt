@@ -16,7 +16,7 @@
 //! | a method with `"validator":"v"`, and no such validator | `NoSuch(v)` at that member, when all others are of their form |
 //! | 1,048,577 bytes | `TooLong` |
 //!
-//! `docs/DEFINITION.md` has the document for people who write definitions. What the contracts promise: an [`Api`] is seen
+//! `docs/API-DOCUMENT.md` has the document for people who write definitions. What the contracts promise: an [`Api`] is seen
 //! as its form, text or document, and its source, and these fix all its parts. [`Api::read`] and [`Api::text`] answer one
 //! exactly where `stated` of `specs/Definition.antt` has parts, or just the fault that it has, with its place; want of
 //! memory alone has no cause. Each getter gives its part of `parts_of`, takes no memory, and answers `None` just where the

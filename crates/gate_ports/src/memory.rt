@@ -92,6 +92,11 @@ impl Conn for MemConn {
     ghost reads_beside = { λ _. refl };
 
     ghost writes_beside = { λ _. refl };
+
+    // A connection in memory has all its bytes: it is never silent.
+    fn begin_message(&mut self, _held: &[u8])
+        ensures same { self.new ≡ self.old }
+    {}
 }
 
 /// A port that lends the connections of a list, and then has ended. The looks of the given numbers, counted from 0, fail,

@@ -7,6 +7,7 @@ ghost use Rattle.gate_walk.specs.Stories.{Story, Tells, acts_of, incoming_of};
 ghost use Rattle.http_edge.specs.declared.incoming.Incoming.TheVariants.{End as end_of_input};
 ghost use Rattle.turn_desk.specs.Calls.{HasItsOwn};
 
+use crate::awaiting::await_message;
 use crate::called::Called;
 use crate::calling::call;
 use crate::edge::{end_at_edge, end_full, stopped_by};
@@ -16,7 +17,7 @@ use call_facts::Request;
 use gate_ports::{Conn, Gate, Means};
 use gate_walk::{Ended, Message};
 use gw_base::{Clock, Words, write_all};
-use http_edge::{Buffer, Incoming, next_message};
+use http_edge::{Buffer, Incoming};
 use keeper_core::Keeper;
 use std::alloc::Global;
 use std::sync::Wait;
@@ -63,7 +64,7 @@ pub fn serve_connection<R: Wait, K: Keeper, C: Conn, B: Backend, T: Clock, W: Wo
     let mut rest = Buffer::new(alloc);
     let mut number: u32 = 1;
     loop {
-        let incoming = match next_message(alloc, conn, &mut rest) {
+        let incoming = match await_message(alloc, conn, &mut rest) {
             Ok(incoming) => incoming,
             Err(fault) => return (seat, end_at_edge(conn, fault), false),
         };

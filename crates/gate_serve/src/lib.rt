@@ -47,6 +47,7 @@
 #![tactic(auto)]
 
 mod administering;
+mod awaiting;
 mod called;
 mod calling;
 mod connection;

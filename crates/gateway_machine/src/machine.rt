@@ -21,6 +21,7 @@ use std::fs::{self, Files};
 use std::io::Write;
 use std::marker::Model;
 use std::net::{Net, TcpListener, TcpStream};
+use std::sync::Wait;
 use std::time::Clock;
 
 /// A lane over sockets of the loopback.
@@ -149,7 +150,7 @@ impl<'r, E: Drop, R, S: Drop, W: Write + Drop> Archive<E> for MachineOutside<'r,
 impl<
     'r,
     E: Drop,
-    R: Files + Net<Listener = TcpListener, Stream = TcpStream> + Clock + Sync,
+    R: Files + Net<Listener = TcpListener, Stream = TcpStream> + Clock + Wait + Sync,
     S: Stores + Drop,
     W: Write + Drop,
 > Outside<E> for MachineOutside<'r, R, S, W> {

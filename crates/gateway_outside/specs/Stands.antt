@@ -24,3 +24,9 @@ IsFresh port = port ≡ record { closed = false; out = false; faults = 0 }
 pub record BackendCounts : Type 0 where
   pub faults : ℕ
   pub lapses : ℕ
+
+-- a connection to a backend: whether the last call that failed ran out of time, and how often a read and a write have failed
+pub record LinkStand : Type 0 where
+  pub lapsed : Bool
+  pub read_faults : ℕ
+  pub write_faults : ℕ

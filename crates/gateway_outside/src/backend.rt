@@ -2,17 +2,16 @@
 ghost use Rattle.std.specs.Prelude.{◌≡◌, None};
 ghost use Rattle.backend_core.specs.Exchanges.{HasStatus};
 
+use crate::exchange::exchange_over;
 use crate::link::{Link, Patience, is_lapse};
 use backend_core::{Backend, Outcome, WireRequest};
-use call_facts::WireReply;
-use gw_base::write_all;
-use http_edge::{Buffer, EdgeFault, next_reply};
 use std::alloc::Global;
 use std::marker::Model;
 use std::net::{Net, TcpListener, TcpStream};
 use std::time::Clock;
 
-/// A backend over sockets of the loopback: one connection for each exchange, to 127.0.0.1 at the request's port. All of an
+/// A backend over sockets of the loopback: one connection for each exchange, to 127.0.0.1 at the request's port, and under
+/// the name `localhost` to `::1` where that is refused. All of an
 /// exchange, from its connection to the last byte of its reply, has the time of the request.
 #[derive(Drop)]
 pub struct SocketBackend<'r, R> {
@@ -47,40 +46,14 @@ fn is_loopback(host: &str) -> bool {
     host == "127.0.0.1" || host == "localhost"
 }
 
-// A reply counts where its status is one of HTTP that is not interim.
-fn replied(reply: WireReply) -> Outcome
-    ensures { HasStatus result }
-{
-    if 200 <= reply.status && reply.status <= 999 {
-        Outcome::Reply(reply)
-    } else {
-        Outcome::Failed
-    }
-}
-
-// What an exchange comes to that was broken off.
-fn broken_off(lapsed: bool) -> Outcome
+// What an exchange comes to for which there is no connection.
+fn unconnected(lapsed: bool) -> Outcome
     ensures { HasStatus result }
 {
     if lapsed {
         Outcome::TimedOut
     } else {
         Outcome::Failed
-    }
-}
-
-// Sends a request and awaits the reply.
-fn talk<'r, R: Clock>(alloc: Global, link: &mut Link<'r, R>, bytes: &[u8]) -> Outcome
-    ensures { HasStatus result }
-{
-    if write_all(link, bytes).is_err() {
-        return broken_off(link.lapsed());
-    }
-    let bodiless = bytes.starts_with(b"HEAD ");
-    match next_reply(alloc, link, &mut Buffer::new(alloc), bodiless) {
-        Ok(reply) => replied(reply),
-        Err(EdgeFault::Memory) => Outcome::Memory,
-        Err(_) => broken_off(link.lapsed()),
     }
 }
 
@@ -97,9 +70,10 @@ fn ask<'r, R: Net<Listener = TcpListener, Stream = TcpStream> + Clock>(
     let Ok(patience) = Patience::begin(rt, request.timeout) else {
         return Outcome::Failed;
     };
-    match Link::open(patience, request.port) {
-        Ok(mut link) => talk(alloc, &mut link, request.bytes.as_slice()),
-        Err(fault) => broken_off(is_lapse(&fault)),
+    let bytes = request.bytes.as_slice();
+    match Link::open(patience, request.host.as_str(), request.port) {
+        Ok(mut link) => exchange_over(alloc, &mut link, bytes, bytes.starts_with(b"HEAD ")),
+        Err(fault) => unconnected(is_lapse(&fault)),
     }
 }
 

@@ -1,9 +1,13 @@
 // One connection to a backend.
-ghost use Rattle.std.specs.Prelude.{◌≤◌, None, length, IfOk};
+ghost use Rattle.std.specs.Prelude.{◌≤◌, None, length, refl, IfOk};
+ghost use Rattle.gateway_outside.specs.Stands.{LinkStand};
 
+use crate::exchange::Line;
+use crate::interrupted::{ATTEMPTS, given_up, is_interrupted};
 use gw_base::{Failed, Sink, Source, WriteStop};
 use std::io::{self, ErrorKind, Read, Write};
-use std::net::{Ipv4Addr, Net, SocketAddr, TcpListener, TcpStream};
+use std::marker::Model;
+use std::net::{Ipv4Addr, Ipv6Addr, Net, SocketAddr, TcpListener, TcpStream};
 use std::time::{Clock, Duration, Instant};
 
 /// The time of an exchange.
@@ -49,11 +53,39 @@ pub struct Link<'r, R> {
     write_faults: u64,
 }
 
+impl<'r, R> Model for Link<'r, R> {
+    ghost use Rattle.gateway_outside.specs.Stands.{LinkStand};
+
+    ghost Value = { LinkStand };
+
+    ghost view = { λ l. record { lapsed = l.lapsed; read_faults = l.read_faults; write_faults = l.write_faults } };
+}
+
+// Connects to one address, in what is left of the time.
+fn connect<R: Net<Listener = TcpListener, Stream = TcpStream> + Clock>(
+    patience: &Patience<'_, R>,
+    address: SocketAddr,
+) -> io::Result<TcpStream> {
+    for _ in 0..ATTEMPTS {
+        match TcpStream::connect_timeout(patience.rt, &address, patience.left()?) {
+            Err(fault) if is_interrupted(&fault) => {}
+            connected => return connected,
+        }
+    }
+    Err(given_up())
+}
+
 impl<'r, R: Net<Listener = TcpListener, Stream = TcpStream> + Clock> Link<'r, R> {
-    /// Connects to this port of 127.0.0.1.
-    pub fn open(patience: Patience<'r, R>, port: u16) -> io::Result<Self> {
+    /// Connects to this port of 127.0.0.1. Under the name `localhost`, a port that is refused there is tried at `::1`: some
+    /// servers listen at that address alone.
+    pub fn open(patience: Patience<'r, R>, host: &str, port: u16) -> io::Result<Self> {
         let address = SocketAddr::from((Ipv4Addr::LOCALHOST, port));
-        let stream = TcpStream::connect_timeout(patience.rt, &address, patience.left()?)?;
+        let stream = match connect(&patience, address) {
+            Err(fault) if fault.kind() == ErrorKind::ConnectionRefused && host == "localhost" => {
+                connect(&patience, SocketAddr::from((Ipv6Addr::LOCALHOST, port)))?
+            }
+            connected => connected?,
+        };
 
         // So that no piece of a request waits for the one before. Where this is refused, the request is slower.
         let _ = stream.set_nodelay(true);
@@ -68,23 +100,30 @@ impl<'r, R: Net<Listener = TcpListener, Stream = TcpStream> + Clock> Link<'r, R>
 }
 
 impl<'r, R: Clock> Link<'r, R> {
-    /// Whether time ran out.
-    pub fn lapsed(&self) -> bool {
-        self.lapsed
-    }
-
     fn read_in_time(&self, buf: &mut [u8]) -> io::Result<usize>
         ensures bound { IfOk result (λ n. n ≤ length buf.new) }
     {
-        self.stream.set_read_timeout(Some(self.patience.left()?))?;
-        (&self.stream).read(buf)
+        for _ in 0..ATTEMPTS {
+            self.stream.set_read_timeout(Some(self.patience.left()?))?;
+            match (&self.stream).read(buf) {
+                Err(fault) if is_interrupted(&fault) => {}
+                read => return read,
+            }
+        }
+        Err(given_up())
     }
 
     fn write_in_time(&self, piece: &[u8]) -> io::Result<usize>
         ensures bound { IfOk result (λ n. n ≤ length piece.now) }
     {
-        self.stream.set_write_timeout(Some(self.patience.left()?))?;
-        (&self.stream).write(piece)
+        for _ in 0..ATTEMPTS {
+            self.stream.set_write_timeout(Some(self.patience.left()?))?;
+            match (&self.stream).write(piece) {
+                Err(fault) if is_interrupted(&fault) => {}
+                wrote => return wrote,
+            }
+        }
+        Err(given_up())
     }
 }
 
@@ -127,5 +166,17 @@ impl<'r, R: Clock> Sink for Link<'r, R> {
                 Err(WriteStop::Failed)
             }
         }
+    }
+}
+
+impl<'r, R: Clock> Line for Link<'r, R> {
+    ghost lapsed = { λ l. l.lapsed };
+
+    ghost reads_beside = { λ _. refl };
+
+    ghost writes_beside = { λ _. refl };
+
+    fn has_lapsed(&self) -> bool {
+        self.lapsed
     }
 }

@@ -5,7 +5,8 @@ ghost use Rattle.gateway_outside.specs.Stands.{IsFresh};
 use crate::door::Door;
 use crate::port::SocketPort;
 use gw_base::{Memory, Shared};
-use std::alloc::Global;
+use std::alloc::{AllocError, Global};
+use std::io;
 use std::net::{Net, TcpListener, TcpStream};
 use std::time::Clock;
 
@@ -21,6 +22,18 @@ pub enum ListenFault {
 impl From<Memory> for ListenFault {
     fn from(_: Memory) -> Self {
         ListenFault::Memory
+    }
+}
+
+impl From<AllocError> for ListenFault {
+    fn from(_: AllocError) -> Self {
+        ListenFault::Memory
+    }
+}
+
+impl From<io::Error> for ListenFault {
+    fn from(_: io::Error) -> Self {
+        ListenFault::Port
     }
 }
 
@@ -51,9 +64,6 @@ pub fn listen<'r, R: Net<Listener = TcpListener, Stream = TcpStream> + Clock>(
     ensures number { IfOk result (λ ports. length ports.items ≡ lanes) }
     ensures fresh { IfOk result (λ ports. All IsFresh ports.items) }
 {
-    let Ok(door) = Door::open(rt, port) else {
-        return Err(ListenFault::Port);
-    };
-    let door = Shared::new(alloc, door)?;
+    let door = Shared::new(alloc, Door::open(rt, alloc, port)?)?;
     Ok(share_out(rt, alloc, door, lanes)?)
 }

@@ -6,13 +6,10 @@ use crate::conn::SocketConn;
 use crate::door::Door;
 use gate_ports::{Accepted, Port};
 use gw_base::{Failed, Shared};
-use std::io::{self, ErrorKind};
+use std::io;
 use std::marker::Model;
-use std::thread;
-use std::time::{Clock, Duration};
-
-// How many milliseconds a lane sleeps after a look that found nothing, so that it takes no processor while it waits.
-const NAP: u64 = 2;
+use std::sync::Wait;
+use std::time::Clock;
 
 /// A port of a listener that several may share. Once one of them was shut, each look of any of them answers `Ended`.
 #[derive(Drop)]
@@ -49,26 +46,25 @@ impl<'r, R: Clock> SocketPort<'r, R> {
     pub fn number(&self) -> Option<u16> {
         self.door.value().number()
     }
+}
 
-    // A connection that waits; where none does, or the look fails, a short sleep first.
+impl<'r, R: Clock + Wait> SocketPort<'r, R> {
+    // Waits for a connection. None where none can be lent now.
     fn look(&self) -> io::Result<Option<SocketConn<'r, R>>>
         ensures { IfOk result (λ found. IfSome found IsUnfailed) }
     {
-        match self.door.value().accept() {
-            Ok(stream) => Ok(Some(SocketConn::begin(self.rt, stream)?)),
-            Err(fault) => {
-                thread::sleep(self.rt, Duration::from_millis(NAP));
-                if fault.kind() == ErrorKind::WouldBlock {
-                    Ok(None)
-                } else {
-                    Err(fault)
-                }
-            }
-        }
+        let Some(stream) = self.door.value().await_client(self.rt)? else {
+            return Ok(None);
+        };
+        let Ok(door) = self.door.share() else {
+            return Ok(None);
+        };
+        // Where the clock can't be read, the client is let go: that is no fault of the port.
+        Ok(SocketConn::begin(self.rt, door, stream).ok())
     }
 }
 
-impl<'r, R: Clock> Port for SocketPort<'r, R> {
+impl<'r, R: Clock + Wait> Port for SocketPort<'r, R> {
     type Link = SocketConn<'r, R>;
 
     ghost coming = { λ _. None };
@@ -90,6 +86,7 @@ impl<'r, R: Clock> Port for SocketPort<'r, R> {
                 self.out = true;
                 Ok(Accepted::Conn(conn))
             }
+            Ok(None) if self.door.value().is_shut() => Ok(Accepted::Ended),
             Ok(None) => Ok(Accepted::NotYet),
             Err(_) => {
                 self.faults = self.faults.saturating_add(1);

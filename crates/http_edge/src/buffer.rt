@@ -44,6 +44,13 @@ impl Buffer {
         self.held.as_slice().is_empty()
     }
 
+    /// The bytes that are held, lent.
+    pub fn held(&self) -> &[u8]
+        ensures { result.now ≡ self.now.bytes }
+    {
+        self.held.as_slice()
+    }
+
     // Keeps this fault, and nothing else.
     pub(crate) fn stop(&mut self, alloc: Global, fault: EdgeFault)
         ensures { self.new ≡ emptied fault }

@@ -83,4 +83,7 @@ impl<'a> Conn for ScriptConn<'a> {
     ghost reads_beside = { λ _. refl };
 
     ghost writes_beside = { λ _. refl };
+
+    // The script has all its bytes: it is never silent.
+    fn begin_message(&mut self, _held: &[u8]) {}
 }

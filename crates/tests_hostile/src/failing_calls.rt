@@ -217,6 +217,8 @@ impl Conn for Narrow {
     ghost reads_beside = { λ _. refl };
 
     ghost writes_beside = { λ _. refl };
+
+    fn begin_message(&mut self, _held: &[u8]) {}
 }
 
 /// How many bytes are written before each write, and how many orders have left then: an answer has 106 bytes.

@@ -18,6 +18,8 @@ const HEAD: &[u8] = b"HEAD /e HTTP/1.1\r\nhost: localhost\r\n\r\n";
 enum Peer<'p> {
     // It reads the request, writes this and closes.
     Writes(&'p [u8]),
+    // It reads a few bytes, writes a reply and closes.
+    AnswersEarly,
     // It closes at once.
     Closes,
     // It reads until the connection is closed.
@@ -49,6 +51,10 @@ fn serve<R: Clock>(
             if &read[..count] == request {
                 stream.write_all(reply)?;
             }
+        }
+        Peer::AnswersEarly => {
+            stream.read(&mut read[..8])?;
+            stream.write_all(b"HTTP/1.1 401 Unauthorized\r\ncontent-length: 2\r\n\r\nno")?;
         }
         Peer::Closes => {}
         Peer::IsSilent => {
@@ -174,6 +180,20 @@ fn a_reply_is_what_the_peer_writes(rt: HostRuntime) -> Result<(), Fail> {
             came
         );
     }
+    Ok(())
+}
+
+// More bytes than a socket of the loopback takes that nobody reads.
+const LARGE: usize = 16_000_000;
+
+#[test]
+fn an_early_reply_is_heard(rt: HostRuntime) -> Result<(), Fail> {
+    let mut bytes = Vec::from_slice(rt.alloc(), b"POST /e HTTP/1.1\r\nhost: localhost\r\n")?;
+    bytes.resize(LARGE, b'x')?;
+    assert_eq!(rt;
+        exchange(&rt, rt.alloc(), LONG, &bytes, Peer::AnswersEarly)?,
+        Came::Reply(401, 2)
+    );
     Ok(())
 }
 

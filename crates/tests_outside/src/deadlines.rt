@@ -4,24 +4,25 @@ use gw_base::{Sink, Source};
 use std::alloc::Global;
 use std::io::{self, Write};
 use std::net::{Net, SocketAddr, TcpListener, TcpStream};
+use std::sync::Wait;
 use std::sync::atomic::{AtomicU64, Ordering};
 use std::test::Fail;
 use std::time::{Clock, Duration};
 
-// The host's sockets, and a clock that stands where the test puts it.
+// A runtime's sockets, and a clock that stands where the test puts it.
 #[derive(Drop)]
-struct Hands<'h> {
-    rt: &'h HostRuntime,
+struct Hands<'h, R> {
+    rt: &'h R,
     seconds: AtomicU64,
 }
 
-impl<'h> Hands<'h> {
+impl<'h, R> Hands<'h, R> {
     fn wait(&self, seconds: u64) {
         self.seconds.fetch_add(seconds, Ordering::SeqCst);
     }
 }
 
-impl<'h> Clock for Hands<'h> {
+impl<'h, R: Clock> Clock for Hands<'h, R> {
     fn monotonic(&self) -> io::Result<Duration> {
         Ok(Duration::from_secs(self.seconds.load(Ordering::SeqCst)))
     }
@@ -35,7 +36,9 @@ impl<'h> Clock for Hands<'h> {
     }
 }
 
-impl<'h> Net for Hands<'h> {
+impl<'h, R: Wait> Wait for Hands<'h, R> {}
+
+impl<'h, R: Net<Listener = TcpListener, Stream = TcpStream>> Net for Hands<'h, R> {
     type Stream = TcpStream;
 
     type Listener = TcpListener;
@@ -66,7 +69,7 @@ const STORIES: [&[Step]; 5] = [
     &[Step::TooLate(40), Step::Writes(0), Step::Reads(29)],
 ];
 
-fn goes(hands: &Hands<'_>, conn: &mut (impl Source + Sink), step: Step) -> bool {
+fn goes<R>(hands: &Hands<'_, R>, conn: &mut (impl Source + Sink), step: Step) -> bool {
     match step {
         Step::Reads(seconds) => {
             hands.wait(seconds);
@@ -84,7 +87,11 @@ fn goes(hands: &Hands<'_>, conn: &mut (impl Source + Sink), step: Step) -> bool 
 }
 
 // Whether a connection goes as its story says.
-fn plays(hands: &Hands<'_>, alloc: Global, story: &[Step]) -> Result<bool, Fail> {
+fn plays<R: Net<Listener = TcpListener, Stream = TcpStream> + Clock + Wait>(
+    hands: &Hands<'_, R>,
+    alloc: Global,
+    story: &[Step],
+) -> Result<bool, Fail> {
     let mut port = one_port(hands, alloc)?;
     let mut peer = connect(hands, &port)?;
     peer.write_all(b"bytes that stand ready")?;

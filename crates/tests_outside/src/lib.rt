@@ -5,6 +5,7 @@
 //! |---|---|
 //! | `backends` | exchanges with peers that reply, close, write no HTTP, are silent or slow, and with none |
 //! | `sockets` | connections over the loopback, ports that were shut, a port that another listener has |
+//! | `parked` | connections whose peers are silent where a message may begin |
 //! | `deadlines` | the time for a whole message, by a clock that the test moves |
 //! | `readings` | the machine's clock, the first words of two lanes, and the line that says where the gateway listens |
 #![tactic(auto)]
@@ -13,6 +14,8 @@
 mod backends;
 #[cfg(test)]
 mod deadlines;
+#[cfg(test)]
+mod parked;
 #[cfg(test)]
 mod readings;
 #[cfg(test)]

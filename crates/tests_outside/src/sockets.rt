@@ -8,8 +8,10 @@ use gw_base::{read_all, write_all};
 use std::alloc::Global;
 use std::io::{self, Write};
 use std::net::{Ipv4Addr, Net, Shutdown, SocketAddr, TcpListener, TcpStream};
+use std::sync::Wait;
 use std::test::Fail;
-use std::time::Clock;
+use std::thread::{self, join};
+use std::time::{Clock, Duration};
 
 // One port over a listener of its own, at a free number.
 pub fn one_port<'r, R: Net<Listener = TcpListener, Stream = TcpStream> + Clock>(
@@ -52,7 +54,7 @@ pub fn connect<'r, R: Net<Listener = TcpListener, Stream = TcpStream> + Clock>(
 const LOOKS: u32 = 1000;
 
 // The next connection.
-pub fn accept<'r, R: Clock>(port: &mut SocketPort<'r, R>) -> Option<SocketConn<'r, R>>
+pub fn accept<'r, R: Clock + Wait>(port: &mut SocketPort<'r, R>) -> Option<SocketConn<'r, R>>
     requires { port.old.out ≡ false }
     ensures { MatchOption result (port.new.out ≡ false) (λ _. port.new.out ≡ true) }
 {
@@ -67,7 +69,7 @@ pub fn accept<'r, R: Clock>(port: &mut SocketPort<'r, R>) -> Option<SocketConn<'
 }
 
 // Reads a connection to its end, and writes the same on it.
-fn echo<'r, R: Clock>(alloc: Global, conn: &mut SocketConn<'r, R>) -> bool {
+fn echo<'r, R: Clock + Wait>(alloc: Global, conn: &mut SocketConn<'r, R>) -> bool {
     let Ok(read) = read_all(alloc, conn, 64) else {
         return false;
     };
@@ -96,11 +98,25 @@ fn bytes_come_and_go_on_a_connection(rt: HostRuntime) -> Result<(), Fail> {
 #[test]
 fn a_port_that_was_shut_ends_the_others(rt: HostRuntime) -> Result<(), Fail> {
     let (mut first, mut second) = two_ports(&rt, rt.alloc())?;
-    assert!(rt; matches!(second.accept(), Ok(Accepted::NotYet)));
     let _peer = connect(&rt, &first)?;
     first.shut();
     assert!(rt; matches!(second.accept(), Ok(Accepted::Ended)));
     assert!(rt; matches!(first.accept(), Ok(Accepted::Ended)));
+    Ok(())
+}
+
+#[test]
+fn a_port_that_waits_is_woken_where_another_is_shut(rt: HostRuntime) -> Result<(), Fail> {
+    let (mut first, mut second) = two_ports(&rt, rt.alloc())?;
+    let (has_ended, _) = join(
+        &rt,
+        || matches!(first.accept(), Ok(Accepted::Ended)),
+        || {
+            thread::sleep(&rt, Duration::from_millis(50));
+            second.shut();
+        },
+    );
+    assert!(rt; has_ended);
     Ok(())
 }
 

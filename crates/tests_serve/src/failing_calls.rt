@@ -100,6 +100,8 @@ impl Conn for Narrow {
     ghost reads_beside = { λ _. refl };
 
     ghost writes_beside = { λ _. refl };
+
+    fn begin_message(&mut self, _held: &[u8]) {}
 }
 
 // What is written before each of ten writes: an answer of 71 bytes takes five.

@@ -45,15 +45,15 @@ returns-in-Err-clause-served g c =
     let law' = g.met.C.Conn.writes_beside in
     let start = c.args.conn.now in
     let at = c.loop-incoming.conn in
-    let mid = c.next_message.new.source in
+    let mid = c.await_message.new.conn in
     let moment = g.T.Clock.fixed c.args.means.now.clock in
     let word = g.W.Words.fixed c.args.means.now.words in
-    let read = sym (law mid) ∙ c.next_message.ensures.beside ∙ law at in
+    let read = sym (law mid) ∙ c.await_message.ensures.beside ∙ law at in
     let r = c.loop-incoming.invariant.running in
     let new = c.end_at_edge.new.conn in
     let wrote = sym (law' new) ∙ c.end_at_edge.ensures.beside ∙ law' mid in
-    let look : Looked moment word (told start) (told at) (told mid) (told new) c.loop-incoming.rest.bytes c.next_message.new.rest.bytes c.loop-incoming.number r.turns =
-    record { so_far = r.said; takes = c.next_message.ensures.taken; unwritten = ap (λ p. p.0) read; unread = ap (λ p. p.0) wrote } in
+    let look : Looked moment word (told start) (told at) (told mid) (told new) c.loop-incoming.rest.bytes c.await_message.new.rest.bytes c.loop-incoming.number r.turns =
+    record { so_far = r.said; takes = c.await_message.ensures.taken; unwritten = ap (λ p. p.0) read; unread = ap (λ p. p.0) wrote } in
     let comes = c.in-Err.ensures.next c.loop-incoming.invariant.fault in
     comes_to_fault r look c.in-Err.fault c.end_at_edge.result comes c.end_at_edge.ensures.ends
     (λ failed. rose_from _ _ _ c.loop-incoming.invariant.writes (subst (λ n. Rose n (g.C.Sink.faults new)) (ap (λ p. p.1) read) (c.end_at_edge.ensures.failed failed)))
@@ -67,15 +67,15 @@ returns-in_default-clause-served g c =
     let law' = g.met.C.Conn.writes_beside in
     let start = c.args.conn.now in
     let at = c.loop-incoming.conn in
-    let mid = c.next_message.new.source in
+    let mid = c.await_message.new.conn in
     let moment = g.T.Clock.fixed c.args.means.now.clock in
     let word = g.W.Words.fixed c.args.means.now.words in
-    let read = sym (law mid) ∙ c.next_message.ensures.beside ∙ law at in
+    let read = sym (law mid) ∙ c.await_message.ensures.beside ∙ law at in
     let r = c.loop-incoming.invariant.running in
-    let look : Looked moment word (told start) (told at) (told mid) (told mid) c.loop-incoming.rest.bytes c.next_message.new.rest.bytes c.loop-incoming.number r.turns =
-    record { so_far = r.said; takes = c.next_message.ensures.taken; unwritten = ap (λ p. p.0) read; unread = refl } in
+    let look : Looked moment word (told start) (told at) (told mid) (told mid) c.loop-incoming.rest.bytes c.await_message.new.rest.bytes c.loop-incoming.number r.turns =
+    record { so_far = r.said; takes = c.await_message.ensures.taken; unwritten = ap (λ p. p.0) read; unread = refl } in
     let is : c.in-Ok.incoming ≡ End = search rules in
-    let comes = subst (λ i. Over Comes c.loop-incoming.rest.bytes (g.C.Source.left at) c.next_message.new.rest.bytes (g.C.Source.left mid) (Ok i)) is (c.in-Ok.ensures.next c.loop-incoming.invariant.fault) in
+    let comes = subst (λ i. Over Comes c.loop-incoming.rest.bytes (g.C.Source.left at) c.await_message.new.rest.bytes (g.C.Source.left mid) (Ok i)) is (c.in-Ok.ensures.next c.loop-incoming.invariant.fault) in
     comes_to_end r look comes (Appends-nil (g.C.Sink.written mid))
 
 pub returns-in-Full-clause-served : goal.returns-in-Full-clause-served
@@ -86,22 +86,22 @@ returns-in-Full-clause-served g c =
     let law' = g.met.C.Conn.writes_beside in
     let start = c.args.conn.now in
     let at = c.loop-incoming.conn in
-    let mid = c.next_message.new.source in
+    let mid = c.await_message.new.conn in
     let moment = g.T.Clock.fixed c.args.means.now.clock in
     let word = g.W.Words.fixed c.args.means.now.words in
-    let read = sym (law mid) ∙ c.next_message.ensures.beside ∙ law at in
+    let read = sym (law mid) ∙ c.await_message.ensures.beside ∙ law at in
     let r = c.loop-incoming.invariant.running in
     let new = c.end_full.new.conn in
     let wrote = sym (law' new) ∙ c.end_full.ensures.beside ∙ law' mid in
-    let look : Looked moment word (told start) (told at) (told mid) (told new) c.loop-incoming.rest.bytes c.next_message.new.rest.bytes c.loop-incoming.number r.turns =
-    record { so_far = r.said; takes = c.next_message.ensures.taken; unwritten = ap (λ p. p.0) read; unread = ap (λ p. p.0) wrote } in
+    let look : Looked moment word (told start) (told at) (told mid) (told new) c.loop-incoming.rest.bytes c.await_message.new.rest.bytes c.loop-incoming.number r.turns =
+    record { so_far = r.said; takes = c.await_message.ensures.taken; unwritten = ap (λ p. p.0) read; unread = ap (λ p. p.0) wrote } in
     let m : Message = record { number = c.loop-incoming.number; too_large = c.in-Some.too_large; request = c.in-Some.request; moment = c.now.result; word = c.next.result } in
     let is : c.in-Ok.incoming ≡ incoming_of c.in-Some.too_large c.in-Some.request = search rules in
-    let found : Found moment word (told at) (told mid) c.loop-incoming.rest.bytes c.next_message.new.rest.bytes c.loop-incoming.number m =
+    let found : Found moment word (told at) (told mid) c.loop-incoming.rest.bytes c.await_message.new.rest.bytes c.loop-incoming.number m =
     record {
       at = (subst (λ f. IsFixed f c.now.result) c.loop-incoming.invariant.clock c.now.ensures.reading, subst (λ f. IsFixed f c.next.result) c.loop-incoming.invariant.words c.next.ensures.reading);
       numbered = refl;
-      comes = subst (λ i. Over Comes c.loop-incoming.rest.bytes (g.C.Source.left at) c.next_message.new.rest.bytes (g.C.Source.left mid) (Ok i)) is (c.in-Ok.ensures.next c.loop-incoming.invariant.fault);
+      comes = subst (λ i. Over Comes c.loop-incoming.rest.bytes (g.C.Source.left at) c.await_message.new.rest.bytes (g.C.Source.left mid) (Ok i)) is (c.in-Ok.ensures.next c.loop-incoming.invariant.fault);
     } in
     let w = c.call-next.ensures.walked in
     let ends = full_from (λ rose. rose_from _ _ _ c.loop-incoming.invariant.writes (subst (λ n. Rose n (g.C.Sink.faults new)) (ap (λ p. p.1) read) rose)) c.in-Full.full (g.C.Sink.written mid) (g.C.Sink.written new)
@@ -117,20 +117,20 @@ returns-in-Memory-clause-served g c =
     let law' = g.met.C.Conn.writes_beside in
     let start = c.args.conn.now in
     let at = c.loop-incoming.conn in
-    let mid = c.next_message.new.source in
+    let mid = c.await_message.new.conn in
     let moment = g.T.Clock.fixed c.args.means.now.clock in
     let word = g.W.Words.fixed c.args.means.now.words in
-    let read = sym (law mid) ∙ c.next_message.ensures.beside ∙ law at in
+    let read = sym (law mid) ∙ c.await_message.ensures.beside ∙ law at in
     let r = c.loop-incoming.invariant.running in
-    let look : Looked moment word (told start) (told at) (told mid) (told mid) c.loop-incoming.rest.bytes c.next_message.new.rest.bytes c.loop-incoming.number r.turns =
-    record { so_far = r.said; takes = c.next_message.ensures.taken; unwritten = ap (λ p. p.0) read; unread = refl } in
+    let look : Looked moment word (told start) (told at) (told mid) (told mid) c.loop-incoming.rest.bytes c.await_message.new.rest.bytes c.loop-incoming.number r.turns =
+    record { so_far = r.said; takes = c.await_message.ensures.taken; unwritten = ap (λ p. p.0) read; unread = refl } in
     let m : Message = record { number = c.loop-incoming.number; too_large = c.in-Some.too_large; request = c.in-Some.request; moment = c.now.result; word = c.next.result } in
     let is : c.in-Ok.incoming ≡ incoming_of c.in-Some.too_large c.in-Some.request = search rules in
-    let found : Found moment word (told at) (told mid) c.loop-incoming.rest.bytes c.next_message.new.rest.bytes c.loop-incoming.number m =
+    let found : Found moment word (told at) (told mid) c.loop-incoming.rest.bytes c.await_message.new.rest.bytes c.loop-incoming.number m =
     record {
       at = (subst (λ f. IsFixed f c.now.result) c.loop-incoming.invariant.clock c.now.ensures.reading, subst (λ f. IsFixed f c.next.result) c.loop-incoming.invariant.words c.next.ensures.reading);
       numbered = refl;
-      comes = subst (λ i. Over Comes c.loop-incoming.rest.bytes (g.C.Source.left at) c.next_message.new.rest.bytes (g.C.Source.left mid) (Ok i)) is (c.in-Ok.ensures.next c.loop-incoming.invariant.fault);
+      comes = subst (λ i. Over Comes c.loop-incoming.rest.bytes (g.C.Source.left at) c.await_message.new.rest.bytes (g.C.Source.left mid) (Ok i)) is (c.in-Ok.ensures.next c.loop-incoming.invariant.fault);
     } in
     let w = c.call-next.ensures.walked in
     let reach = subst (λ x. Reaches (walk m) w.0 x) c.in-Memory.is w.2 in
@@ -144,22 +144,22 @@ returns-in-Err-write_all-clause-served g c =
     let law' = g.met.C.Conn.writes_beside in
     let start = c.args.conn.now in
     let at = c.loop-incoming.conn in
-    let mid = c.next_message.new.source in
+    let mid = c.await_message.new.conn in
     let moment = g.T.Clock.fixed c.args.means.now.clock in
     let word = g.W.Words.fixed c.args.means.now.words in
-    let read = sym (law mid) ∙ c.next_message.ensures.beside ∙ law at in
+    let read = sym (law mid) ∙ c.await_message.ensures.beside ∙ law at in
     let r = c.loop-incoming.invariant.running in
     let new = c.write_all.new.sink in
     let wrote = sym (law' new) ∙ c.write_all.ensures.beside ∙ law' mid in
-    let look : Looked moment word (told start) (told at) (told mid) (told new) c.loop-incoming.rest.bytes c.next_message.new.rest.bytes c.loop-incoming.number r.turns =
-    record { so_far = r.said; takes = c.next_message.ensures.taken; unwritten = ap (λ p. p.0) read; unread = ap (λ p. p.0) wrote } in
+    let look : Looked moment word (told start) (told at) (told mid) (told new) c.loop-incoming.rest.bytes c.await_message.new.rest.bytes c.loop-incoming.number r.turns =
+    record { so_far = r.said; takes = c.await_message.ensures.taken; unwritten = ap (λ p. p.0) read; unread = ap (λ p. p.0) wrote } in
     let m : Message = record { number = c.loop-incoming.number; too_large = c.in-Some.too_large; request = c.in-Some.request; moment = c.now.result; word = c.next.result } in
     let is : c.in-Ok.incoming ≡ incoming_of c.in-Some.too_large c.in-Some.request = search rules in
-    let found : Found moment word (told at) (told mid) c.loop-incoming.rest.bytes c.next_message.new.rest.bytes c.loop-incoming.number m =
+    let found : Found moment word (told at) (told mid) c.loop-incoming.rest.bytes c.await_message.new.rest.bytes c.loop-incoming.number m =
     record {
       at = (subst (λ f. IsFixed f c.now.result) c.loop-incoming.invariant.clock c.now.ensures.reading, subst (λ f. IsFixed f c.next.result) c.loop-incoming.invariant.words c.next.ensures.reading);
       numbered = refl;
-      comes = subst (λ i. Over Comes c.loop-incoming.rest.bytes (g.C.Source.left at) c.next_message.new.rest.bytes (g.C.Source.left mid) (Ok i)) is (c.in-Ok.ensures.next c.loop-incoming.invariant.fault);
+      comes = subst (λ i. Over Comes c.loop-incoming.rest.bytes (g.C.Source.left at) c.await_message.new.rest.bytes (g.C.Source.left mid) (Ok i)) is (c.in-Ok.ensures.next c.loop-incoming.invariant.fault);
     } in
     let w = c.call-next.ensures.walked in
     let front = subst (λ b. AppendsFront (g.C.Sink.written mid) (g.C.Sink.written new) b) c.as_slice.ensures c.write_all.ensures.front in
@@ -176,22 +176,22 @@ returns-then-closes-clause-served g c =
     let law' = g.met.C.Conn.writes_beside in
     let start = c.args.conn.now in
     let at = c.loop-incoming.conn in
-    let mid = c.next_message.new.source in
+    let mid = c.await_message.new.conn in
     let moment = g.T.Clock.fixed c.args.means.now.clock in
     let word = g.W.Words.fixed c.args.means.now.words in
-    let read = sym (law mid) ∙ c.next_message.ensures.beside ∙ law at in
+    let read = sym (law mid) ∙ c.await_message.ensures.beside ∙ law at in
     let r = c.loop-incoming.invariant.running in
     let new = c.write_all.new.sink in
     let wrote = sym (law' new) ∙ c.write_all.ensures.beside ∙ law' mid in
-    let look : Looked moment word (told start) (told at) (told mid) (told new) c.loop-incoming.rest.bytes c.next_message.new.rest.bytes c.loop-incoming.number r.turns =
-    record { so_far = r.said; takes = c.next_message.ensures.taken; unwritten = ap (λ p. p.0) read; unread = ap (λ p. p.0) wrote } in
+    let look : Looked moment word (told start) (told at) (told mid) (told new) c.loop-incoming.rest.bytes c.await_message.new.rest.bytes c.loop-incoming.number r.turns =
+    record { so_far = r.said; takes = c.await_message.ensures.taken; unwritten = ap (λ p. p.0) read; unread = ap (λ p. p.0) wrote } in
     let m : Message = record { number = c.loop-incoming.number; too_large = c.in-Some.too_large; request = c.in-Some.request; moment = c.now.result; word = c.next.result } in
     let is : c.in-Ok.incoming ≡ incoming_of c.in-Some.too_large c.in-Some.request = search rules in
-    let found : Found moment word (told at) (told mid) c.loop-incoming.rest.bytes c.next_message.new.rest.bytes c.loop-incoming.number m =
+    let found : Found moment word (told at) (told mid) c.loop-incoming.rest.bytes c.await_message.new.rest.bytes c.loop-incoming.number m =
     record {
       at = (subst (λ f. IsFixed f c.now.result) c.loop-incoming.invariant.clock c.now.ensures.reading, subst (λ f. IsFixed f c.next.result) c.loop-incoming.invariant.words c.next.ensures.reading);
       numbered = refl;
-      comes = subst (λ i. Over Comes c.loop-incoming.rest.bytes (g.C.Source.left at) c.next_message.new.rest.bytes (g.C.Source.left mid) (Ok i)) is (c.in-Ok.ensures.next c.loop-incoming.invariant.fault);
+      comes = subst (λ i. Over Comes c.loop-incoming.rest.bytes (g.C.Source.left at) c.await_message.new.rest.bytes (g.C.Source.left mid) (Ok i)) is (c.in-Ok.ensures.next c.loop-incoming.invariant.fault);
     } in
     let w = c.call-next.ensures.walked in
     let all = subst (λ b. Appends (g.C.Sink.written mid) (g.C.Sink.written new) b) c.as_slice.ensures c.in_default-write_all.ensures.all in
@@ -214,22 +214,22 @@ loop-incoming-preserved g c =
     let law' = g.met.C.Conn.writes_beside in
     let start = c.args.conn.now in
     let at = c.loop-incoming.conn in
-    let mid = c.next_message.new.source in
+    let mid = c.await_message.new.conn in
     let moment = g.T.Clock.fixed c.args.means.now.clock in
     let word = g.W.Words.fixed c.args.means.now.words in
-    let read = sym (law mid) ∙ c.next_message.ensures.beside ∙ law at in
+    let read = sym (law mid) ∙ c.await_message.ensures.beside ∙ law at in
     let r = c.loop-incoming.invariant.running in
     let new = c.write_all.new.sink in
     let wrote = sym (law' new) ∙ c.write_all.ensures.beside ∙ law' mid in
-    let look : Looked moment word (told start) (told at) (told mid) (told new) c.loop-incoming.rest.bytes c.next_message.new.rest.bytes c.loop-incoming.number r.turns =
-    record { so_far = r.said; takes = c.next_message.ensures.taken; unwritten = ap (λ p. p.0) read; unread = ap (λ p. p.0) wrote } in
+    let look : Looked moment word (told start) (told at) (told mid) (told new) c.loop-incoming.rest.bytes c.await_message.new.rest.bytes c.loop-incoming.number r.turns =
+    record { so_far = r.said; takes = c.await_message.ensures.taken; unwritten = ap (λ p. p.0) read; unread = ap (λ p. p.0) wrote } in
     let m : Message = record { number = c.loop-incoming.number; too_large = c.in-Some.too_large; request = c.in-Some.request; moment = c.now.result; word = c.next.result } in
     let is : c.in-Ok.incoming ≡ incoming_of c.in-Some.too_large c.in-Some.request = search rules in
-    let found : Found moment word (told at) (told mid) c.loop-incoming.rest.bytes c.next_message.new.rest.bytes c.loop-incoming.number m =
+    let found : Found moment word (told at) (told mid) c.loop-incoming.rest.bytes c.await_message.new.rest.bytes c.loop-incoming.number m =
     record {
       at = (subst (λ f. IsFixed f c.now.result) c.loop-incoming.invariant.clock c.now.ensures.reading, subst (λ f. IsFixed f c.next.result) c.loop-incoming.invariant.words c.next.ensures.reading);
       numbered = refl;
-      comes = subst (λ i. Over Comes c.loop-incoming.rest.bytes (g.C.Source.left at) c.next_message.new.rest.bytes (g.C.Source.left mid) (Ok i)) is (c.in-Ok.ensures.next c.loop-incoming.invariant.fault);
+      comes = subst (λ i. Over Comes c.loop-incoming.rest.bytes (g.C.Source.left at) c.await_message.new.rest.bytes (g.C.Source.left mid) (Ok i)) is (c.in-Ok.ensures.next c.loop-incoming.invariant.fault);
     } in
     let w = c.call-next.ensures.walked in
     let all = subst (λ b. Appends (g.C.Sink.written mid) (g.C.Sink.written new) b) c.as_slice.ensures c.in_default-write_all.ensures.all in
@@ -242,7 +242,7 @@ loop-incoming-preserved g c =
       fault = c.in-Ok.ensures.kept c.loop-incoming.invariant.fault;
       clock = ap g.T.Clock.fixed c.call-next.ensures.clock ∙ c.now.ensures.same ∙ c.loop-incoming.invariant.clock;
       words = ap g.W.Words.fixed c.call-next.ensures.words ∙ c.next.ensures.same ∙ c.loop-incoming.invariant.words;
-      reads = omega (arith, c.loop-incoming.invariant.reads, c.next_message.ensures.later, reads);
+      reads = omega (arith, c.loop-incoming.invariant.reads, c.await_message.ensures.later, reads);
       writes = omega (arith, c.loop-incoming.invariant.writes, faults, c.write_all.ensures.cause.later);
       running = runs_on r look c.call-next.result.0 (backend c.call-next.new.means.backend) m w.0 c.call-next.result.2 found w.1 w.4 w.3 c.in-Answered.cause c.in-Answered.bytes c.in-Answered.closes goes all c.if-closes.false;
     }

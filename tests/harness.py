@@ -114,14 +114,15 @@ class Client:
 
 
 class Server:
-    """The program, listening, in a folder of its own, over a store there."""
+    """The program, listening, in a folder of its own, over a store there. The words before it may name a program that becomes it."""
 
-    def __init__(self, program, room, store="orders.store", lanes=LANES):
+    def __init__(self, program, room, store="orders.store", lanes=LANES, before=()):
         self.program, self.room, self.store, self.lanes, self.process, self.port = program, room, store, lanes, None, None
+        self.before = before
 
     def run(self, *words, lines=b""):
         """The program with these words and this input, which ends by itself: its status, and what it prints."""
-        ended = subprocess.run([self.program, *words], cwd=self.room, input=lines, capture_output=True, timeout=WAIT)
+        ended = subprocess.run([*self.before, self.program, *words], cwd=self.room, input=lines, capture_output=True, timeout=WAIT)
         return ended.returncode, ended.stdout
 
     def start(self):
@@ -130,7 +131,7 @@ class Server:
             with socket.socket() as probe:
                 probe.bind(("127.0.0.1", 0))
                 self.port = probe.getsockname()[1]
-            words = [self.program, "serve", self.store, str(self.port), str(self.lanes)]
+            words = [*self.before, self.program, "serve", self.store, str(self.port), str(self.lanes)]
             with open(f"{self.room}/output", "wb") as output:
                 self.process = subprocess.Popen(words, cwd=self.room, stdin=subprocess.DEVNULL, stdout=output, stderr=subprocess.PIPE)
             line = self.first_line()

@@ -1,6 +1,6 @@
 -- What a definition keeps.
-use Rattle.std.proofs.Common.{◌≡◌, ℕ, List, ap, sym, ◌∙◌, Ok, Err, refl}
-use Rattle.std.specs.Prelude.{OnOk, Result}
+use Rattle.std.proofs.Common.{◌≡◌, ℕ, true, List, ap, sym, ◌∙◌, Ok, Err, refl}
+use Rattle.std.specs.Prelude.{OnOk, Result, is_ok}
 use Rattle.vtl_grammar.specs.Tree.{Items}
 use Rattle.vtl_grammar.specs.Templates.{read_of}
 use Rattle.vtl_grammar.specs.declared.fault.TemplateFault.{TemplateFault}
@@ -12,6 +12,9 @@ use Rattle.api_model.specs.Document.{Parts}
 pub parts_are : (d : Definition) (p : Parts) → stated d ≡ Ok p → parts_of d ≡ p
 unfolding parts_of
 parts_are d p e = ap parts_in e
+
+pub is_accepted : (d : Definition) (p : Parts) → stated d ≡ Ok p → is_ok (stated d) ≡ true
+is_accepted d p e = ap is_ok e
 
 -- what is stated is the parts
 stated_parts : (d : Definition) (p : Parts) → stated d ≡ Ok p → stated d ≡ Ok (parts_of d)

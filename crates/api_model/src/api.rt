@@ -1,5 +1,5 @@
 // A definition.
-ghost use Rattle.std.specs.Prelude.{◌≡◌, ◌⊎◌, ◌<◌, length, map, slice_get, IfErr, IfOk, IfSome, MatchOption, MatchResult, None, OnOk, Some, Ok, Err, if◌then◌else◌};
+ghost use Rattle.std.specs.Prelude.{◌≡◌, is_ok, true, ◌⊎◌, ◌<◌, length, map, slice_get, IfErr, IfOk, IfSome, MatchOption, MatchResult, None, OnOk, Some, Ok, Err, if◌then◌else◌};
 ghost use Rattle.std.specs.Option.{option_and_then, option_map};
 ghost use Rattle.api_members.specs.Models.{schemas_in};
 ghost use Rattle.api_resources.specs.Paths.{IsTree};
@@ -126,7 +126,7 @@ fn count(alloc: Global, count: usize) -> Result<u32, ApiFault>
 }
 
 // A definition with its parts.
-#[tactic(auto, unfolding(crate::specs::Definition::parts_of), using(crate::proofs::Kept::parts_are))]
+#[tactic(auto, unfolding(crate::specs::Definition::parts_of), using(crate::proofs::Kept::parts_are, crate::proofs::Kept::is_accepted))]
 fn keep(
     alloc: Global,
     is_text: bool,
@@ -233,6 +233,13 @@ impl Api {
         ensures { option_map (λ t. t.now) result ≡ (if self.now.is_text then Some self.now.source else None) }
     {
         self.template.as_ref()
+    }
+
+    /// Its source states a definition: no fault is found in it. Nothing is done.
+    pub fn is_definition(&self)
+        ensures { is_ok (stated self.now) ≡ true }
+    {
+        let _source = &self.source;
     }
 
     /// How many resources there are.

@@ -1,5 +1,5 @@
 -- What events leave of the policies that are remembered.
-use Rattle.std.proofs.Common.{◌≡◌, ℕ, ◌+◌, Bool, true, false, ◌||◌, List, Result, Ok, Err, OnOk, OnErr, refl, arith}
+use Rattle.std.proofs.Common.{◌≡◌, ℕ, ◌+◌, Bool, true, false, not, ◌&&◌, ◌||◌, List, Result, Ok, Err, OnOk, OnErr, refl, arith}
 use Rattle.policy_memory.proofs.Lawful.{places-left-out}
 use Rattle.policy_memory.specs.Kept.{Kept, Remembers}
 use Rattle.policy_memory.specs.Remembered.{Happening}
@@ -27,6 +27,12 @@ on_err (Err e) P Q f p = f p
 pub or_first : (a b : Bool) → a ≡ true → (a || b) ≡ true
 or_first true b e = refl
 or_first false b e = absurd cc
+
+-- an event that rewrites no row
+pub shared_wants : (a in_place b : Bool) → a ≡ true → (a && not (in_place && false) || b) ≡ true
+shared_wants true true b e = refl
+shared_wants true false b e = refl
+shared_wants false in_place b e = absurd cc
 
 -- a command that is no Flush forgets nothing
 pub unflushed : (s : State) (command : Command) → ((api stage : List ℕ) → command ≡ Flush api stage → ⊥) → happened_by s command ≡ s.happened

@@ -1,13 +1,16 @@
 -- Changes that are made ready.
-use Rattle.std.specs.Prelude.{◌≡◌, ◌<◌, ℕ, Bool, true, false, List, length, is_some}
+use Rattle.std.specs.Prelude.{◌≡◌, ◌<◌, ℕ, Bool, true, false, List, length}
 use Rattle.std.specs.Vec.{vec_capacity}
 use Rattle.api_model.specs.Definition.{Definition as Definition'}
 use Rattle.call_facts.specs.Pairs.{Pairs}
-use Rattle.keeper_core.specs.Lists.{Lists, join_row}
+use Rattle.keeper_core.specs.Joins.{join_at, with_numbers}
+use Rattle.keeper_core.specs.Lists.{Lists}
 use Rattle.keeper_core.specs.Places.{IsWithin, put_at}
 use Rattle.keeper_core.specs.declared.place.Place.{Place}
 use Rattle.book_opening.specs.declared.ready.Ready.{Ready}
 use Rattle.book_opening.specs.declared.ready.Standing.{Standing}
+use Rattle.keeper_core.specs.declared.numbers.JoinNumbers.{JoinNumbers}
+use Rattle.keeper_core.specs.declared.rows.JoinRow.{JoinRow}
 use Rattle.keeper_core.specs.declared.rows.Row.{Row}
 use Rattle.keeper_core.specs.declared.rows.Row.TheVariants.{Meta, Api, Deployment, Stage, Key, Plan, Join}
 use Rattle.book_rules.specs.Outcomes.{Outcome, says, writes}
@@ -31,29 +34,33 @@ IsHeldBy (Plan row) (Allows stages) = stages ≡ stages_of row
 IsHeldBy (Join row) Nothing = Unit {0}
 IsHeldBy row held = ⊥
 
--- what was prepared: a reply alone; or a row with what it holds; or the row of a key; or that of a join, to be written in its place
-abbrev pub outcome_in : Prepared → Outcome
-outcome_in (Says reply) = says reply
-outcome_in (Writes change) = writes change.row change.reply
-outcome_in (Names row) = writes (Key row) Done
-outcome_in (Rewrites row reply) = writes (Join row) reply
+-- the join at this place with other numbers
+abbrev pub rewritten_at : Lists → ℕ → JoinNumbers → JoinRow
+rewritten_at lists at numbers = with_numbers (join_at lists at) numbers
 
--- what is held was read of its row; no other key has the value; the join stands
+-- what was prepared: a reply alone; or a row with what it holds; or the row of a key; or other numbers of the join at a place
+abbrev pub outcome_in : Lists → Prepared → Outcome
+outcome_in lists (Says reply) = says reply
+outcome_in lists (Writes change) = writes change.row change.reply
+outcome_in lists (Names row) = writes (Key row) Done
+outcome_in lists (Rewrites at numbers reply) = writes (Join (rewritten_at lists at numbers)) reply
+
+-- what is held was read of its row; no other key has the value; a join is at the place
 abbrev pub IsReadyIn : Lists → Prepared → Type 0
 IsReadyIn lists (Says reply) = Unit {0}
 IsReadyIn lists (Writes change) = IsHeldBy change.row change.held
 IsReadyIn lists (Names row) = is_of_another row.key (key_with lists row.value) ≡ false
-IsReadyIn lists (Rewrites row reply) = is_some (join_row lists row.plan row.key) ≡ true
+IsReadyIn lists (Rewrites at numbers reply) = at < length lists.joins
 
 abbrev pub IsPrepared : Lists → Outcome → Prepared → Type 0
-IsPrepared lists outcome prepared = (outcome ≡ outcome_in prepared) × IsReadyIn lists prepared
+IsPrepared lists outcome prepared = (outcome ≡ outcome_in lists prepared) × IsReadyIn lists prepared
 
 -- whether the row is written in its place, where one is written
 abbrev pub IsMeant : Bool → Prepared → Type 0
 IsMeant rewriting (Says reply) = Unit {0}
 IsMeant rewriting (Writes change) = rewriting ≡ false
 IsMeant rewriting (Names row) = rewriting ≡ false
-IsMeant rewriting (Rewrites row reply) = rewriting ≡ true
+IsMeant rewriting (Rewrites at numbers reply) = rewriting ≡ true
 
 -- there is room for one more of what is held
 abbrev pub HasRoomFor : Held → Ready → Type 0

@@ -4,8 +4,6 @@ pub mod Books
 pub mod Changes
 -- what a keeper shows after an event
 pub mod Keeps
--- what holds of every history
-pub mod Laws
 -- the values of keys, while one is put
 pub mod Naming
 -- what stands

@@ -2,8 +2,8 @@
 ghost use Rattle.std.specs.Prelude.{◌≡◌, ◌≢◌, [], ◌∷◌, ◌++◌, length, true, false, Some, None, IfOk, OnOk, OnErr, IfErr, IsErrOf, is_some};
 ghost use Rattle.gw_base.specs.Outside.{Rose};
 ghost use Rattle.book_rules.specs.Good.{bad_row};
-ghost use Rattle.book_rules.specs.History.{Answers, total_size, state_after, tables_after, is_full};
-ghost use Rattle.book_rules.specs.Machine.{outcome_of, wants_memory};
+ghost use Rattle.book_rules.specs.History.{Answers, total_size, state_after, tables_after, is_full, wants_memory};
+ghost use Rattle.book_rules.specs.Machine.{outcome_of};
 ghost use Rattle.book_rules.specs.Times.{IsInTime};
 ghost use Rattle.book_core.specs.Books.{Keeps, counts_of};
 
@@ -87,8 +87,9 @@ impl<K: Keeper> Book<K> {
         ensures full { IfErr result (λ e. e ≢ StepFault.Memory → (is_full self.old.base.limits self.old.history event ≡ true)
             × (e ≡ StepFault.SessionFull (length self.old.history) (total_size self.old.history))) }
 
-        // Memory is wanted only to share a definition or a policy, to write a row, or to note a flush.
-        ensures memory { IsErrOf result StepFault.Memory → wants_memory event (outcome_of (state_after self.old.base.opening self.old.history) (length self.old.history) event) ≡ true }
+        // Memory runs out only where a definition or a policy is shared, a row is written, or a flush is noted: not where a keeper
+        // rewrites a join in its place.
+        ensures memory { IsErrOf result StepFault.Memory → wants_memory K.IN_PLACE event (outcome_of (state_after self.old.base.opening self.old.history) (length self.old.history) event) ≡ true }
     {
         let size = size(&event);
         let entries = self.history.len() as u32;

@@ -11,7 +11,7 @@ use api_model::Api;
 use book_opening::{Ready, Standing};
 use book_rules::Reply;
 use gw_base::{Memory, Seq, Shared, Text};
-use keeper_core::{JoinRow, KeyRow, Place, Row, Tables};
+use keeper_core::{JoinNumbers, KeyRow, Place, Row, Tables};
 
 /// What a row holds, read.
 pub enum Held {
@@ -44,8 +44,8 @@ pub enum Prepared {
     Writes(Change),
     /// The row of a key, whose value no other key has.
     Names(KeyRow),
-    /// The row of a join that stands, to be written in its place, and the reply where it is kept.
-    Rewrites(JoinRow, Reply),
+    /// Other numbers of the join at this place of its table, and the reply where they are kept.
+    Rewrites(usize, JoinNumbers, Reply),
 }
 
 // Written by hand, so that a function that lets a value go makes one call in place of a branch for each variant.

@@ -1,19 +1,19 @@
 // What stands after the entries of a history, and how an event changes it.
-ghost use Rattle.std.specs.Prelude.{◌≡◌, ◌+◌, ℕ, true, false, List, [], Some, None, Bool, IfOk, IfSome, OnOk, OnErr, is_some};
-ghost use Rattle.keeper_core.specs.Lists.{join_row, stage_row};
+ghost use Rattle.std.specs.Prelude.{◌≡◌, ◌+◌, ◌<◌, ℕ, true, false, not, ◌&&◌, List, [], length, Some, None, Bool, IfOk, IfSome, IsOk, IsTrue, OnOk, OnErr, is_some};
+ghost use Rattle.keeper_core.specs.Lists.{stage_row};
 ghost use Rattle.keeper_core.specs.declared.rows.Row.TheVariants.{Join as join_of, Key as key_of};
 ghost use Rattle.book_rules.specs.Fits.{AreFit};
 ghost use Rattle.book_rules.specs.Commands.{commanded};
-ghost use Rattle.book_rules.specs.History.{rewrites, rewrites_by};
+ghost use Rattle.book_rules.specs.History.{rewrites, rewrites_by, wants_memory};
 ghost use Rattle.book_rules.specs.Outcomes.{says};
 ghost use Rattle.book_rules.specs.StageCommands.{flush as flush_of};
 ghost use Rattle.book_rules.specs.declared.events.Event.TheVariants.{Admin as admin_of};
 ghost use Rattle.book_rules.specs.PlanCommands.{is_of_another, key_with};
-ghost use Rattle.book_rules.specs.Machine.{time_of, entered, outcome_of, row_of, told, after, put_kept, takes_memory, is_shared, flushed_at, happened_by, happened_behind, wants_memory};
+ghost use Rattle.book_rules.specs.Machine.{time_of, entered, outcome_of, row_of, told, after, put_kept, takes_memory, is_shared, flushed_at, happened_by, happened_behind};
 ghost use Rattle.policy_memory.specs.Kept.{Remembers};
 ghost use Rattle.policy_memory.specs.Remembered.{Happening};
 ghost use Rattle.book_opening.specs.Ready.{AreReady};
-ghost use Rattle.book_core.specs.Changes.{IsHeldBy, IsMeant, IsReadyIn, outcome_in};
+ghost use Rattle.book_core.specs.Changes.{IsHeldBy, IsMeant, IsReadyIn, outcome_in, rewritten_at};
 ghost use Rattle.book_core.specs.Keeps.{Went, Stays};
 ghost use Rattle.book_core.specs.Standing.{is_taken_to, number_to, standing, variables_to};
 
@@ -27,7 +27,7 @@ use book_opening::{Ready, Standing};
 use book_rules::{Command, Event, Refusal, Reply, View};
 use call_facts::Vars;
 use gw_base::{Memory, Shared, Text};
-use keeper_core::{JoinRow, KeepFault, Keeper, KeyRow, Row, Table, Tables, keep};
+use keeper_core::{JoinNumbers, KeepFault, Keeper, KeyRow, Row, Table, Tables, keep, rewrite_at};
 use policy_memory::PolicyMemory;
 use stage_canary::takes_canary;
 use std::alloc::Global;
@@ -219,33 +219,32 @@ fn name_key<K: Keeper>(
     }
 }
 
-// Asks the keeper for a join in its place, and writes it where it was kept. An `Err` changes nothing.
+// Asks the keeper for other numbers of the join at this place, and writes them where they were kept. An `Err` changes nothing.
 fn rewrite<K: Keeper>(
     current: &mut Current,
     keeper: &mut K,
     alloc: Global,
-    row: &JoinRow,
+    at: usize,
+    numbers: JoinNumbers,
     reply: Reply,
 ) -> Result<Taken, Memory>
     requires ready { AreReady current.old.tables.lists current.old.ready }
-    requires stands { is_some (join_row current.old.tables.lists row.now.plan row.now.key) ≡ true }
+    requires inside { at < length current.old.tables.lists.joins }
     requires told { IfSome (K.facts keeper.old).tables (λ lists. lists ≡ current.old.tables.lists) }
     requires nothing_staged { (K.facts keeper.old).staged ≡ [] }
     ensures reply { IfOk result (λ taken. taken.reply ≡ told true reply taken.kept) }
-    ensures lists { IfOk result (λ taken. current.new.tables.lists ≡ put_kept (Some (join_of row.now)) taken.kept current.old.tables.lists) }
-    ensures keeper { IfOk result (λ taken. Went true (Some (join_of row.now)) taken.kept (K.facts keeper.old) (K.facts keeper.new)) }
+    ensures lists { IfOk result (λ taken. current.new.tables.lists ≡ put_kept (Some (join_of (rewritten_at current.old.tables.lists at numbers))) taken.kept current.old.tables.lists) }
+    ensures keeper { IfOk result (λ taken. Went true (Some (join_of (rewritten_at current.old.tables.lists at numbers))) taken.kept (K.facts keeper.old) (K.facts keeper.new)) }
     ensures ready { AreReady current.new.tables.lists current.new.ready }
     ensures latest { current.new.latest ≡ current.old.latest }
     ensures closing { current.new.closing ≡ current.old.closing }
     ensures policies { current.new.policies ≡ current.old.policies }
     ensures err { OnErr result (current.new.tables.lists ≡ current.old.tables.lists) }
     ensures stays { OnErr result (Stays (K.facts keeper.old) (K.facts keeper.new)) }
+    ensures memory { IsTrue K.IN_PLACE → IsOk result }
 {
-    match keeper.rewrite(alloc, row) {
-        Ok(()) => {
-            current.tables.rewrite(row);
-            Ok(Taken { reply, kept: true })
-        }
+    match rewrite_at(keeper, alloc, &mut current.tables, at, numbers) {
+        Ok(()) => Ok(Taken { reply, kept: true }),
         Err(KeepFault::Failed) => Ok(Taken {
             reply: Reply::Store,
             kept: false,
@@ -265,22 +264,24 @@ fn carry_out<K: Keeper>(
     requires ready { AreReady current.old.tables.lists current.old.ready }
     requires told { IfSome (K.facts keeper.old).tables (λ lists. lists ≡ current.old.tables.lists) }
     requires nothing_staged { (K.facts keeper.old).staged ≡ [] }
-    ensures reply { IfOk result (λ taken. taken.reply ≡ told (is_some (outcome_in prepared).row) (outcome_in prepared).reply taken.kept) }
-    ensures lists { IfOk result (λ taken. current.new.tables.lists ≡ put_kept (outcome_in prepared).row taken.kept current.old.tables.lists) }
-    ensures keeper { IfOk result (λ taken. (rewriting : Bool) → IsMeant rewriting prepared → Went rewriting (outcome_in prepared).row taken.kept (K.facts keeper.old) (K.facts keeper.new)) }
+    ensures reply { IfOk result (λ taken. taken.reply ≡ told (is_some (outcome_in current.old.tables.lists prepared).row) (outcome_in current.old.tables.lists prepared).reply taken.kept) }
+    ensures lists { IfOk result (λ taken. current.new.tables.lists ≡ put_kept (outcome_in current.old.tables.lists prepared).row taken.kept current.old.tables.lists) }
+    ensures keeper { IfOk result (λ taken. (rewriting : Bool) → IsMeant rewriting prepared → Went rewriting (outcome_in current.old.tables.lists prepared).row taken.kept (K.facts keeper.old) (K.facts keeper.new)) }
     ensures ready { AreReady current.new.tables.lists current.new.ready }
     ensures latest { current.new.latest ≡ current.old.latest }
     ensures closing { current.new.closing ≡ current.old.closing }
     ensures policies { current.new.policies ≡ current.old.policies }
     ensures err { OnErr result (current.new.tables.lists ≡ current.old.tables.lists) }
     ensures stays { OnErr result (Stays (K.facts keeper.old) (K.facts keeper.new)) }
-    ensures memory { OnErr result (takes_memory (outcome_in prepared) ≡ true) }
+    ensures memory { (rewriting : Bool) → IsMeant rewriting prepared → OnErr result ((takes_memory (outcome_in current.old.tables.lists prepared) && not (K.IN_PLACE && rewriting)) ≡ true) }
 {
     match prepared {
         Prepared::Says(reply) => Ok(Taken { reply, kept: true }),
         Prepared::Writes(change) => write(current, keeper, alloc, change),
         Prepared::Names(row) => name_key(current, keeper, alloc, row),
-        Prepared::Rewrites(row, reply) => rewrite(current, keeper, alloc, &row, reply),
+        Prepared::Rewrites(at, numbers, reply) => rewrite(
+            current, keeper, alloc, at, numbers, reply,
+        ),
     }
 }
 
@@ -337,7 +338,7 @@ fn command<K: Keeper>(
     ensures policies { current.new.policies ≡ current.old.policies }
     ensures err { OnErr result (current.new.tables.lists ≡ current.old.tables.lists) }
     ensures stays { OnErr result (Stays (K.facts keeper.old) (K.facts keeper.new)) }
-    ensures memory { OnErr result (takes_memory (commanded current.old.tables.lists at command.now) ≡ true) }
+    ensures memory { OnErr result ((takes_memory (commanded current.old.tables.lists at command.now) && not (K.IN_PLACE && rewrites_by command.now)) ≡ true) }
 {
     let prepared = prepare(&current.tables, &current.ready, alloc, at, command)?;
     carry_out(current, keeper, alloc, prepared)
@@ -367,7 +368,7 @@ fn administer<K: Keeper>(
     ensures err { OnErr result (current.new.tables.lists ≡ current.old.tables.lists) }
     ensures unchanged { OnErr result (current.new.policies ≡ current.old.policies) }
     ensures stays { OnErr result (Stays (K.facts keeper.old) (K.facts keeper.new)) }
-    ensures memory { (moment : ℕ) → OnErr result (wants_memory (admin_of moment asked.now) (commanded current.old.tables.lists at asked.now) ≡ true) }
+    ensures memory { (moment : ℕ) → OnErr result (wants_memory K.IN_PLACE (admin_of moment asked.now) (commanded current.old.tables.lists at asked.now) ≡ true) }
 {
     match asked {
         Command::Flush { api, stage } => flush(current, alloc, place, api, stage),
@@ -399,7 +400,7 @@ pub fn take<K: Keeper>(
     ensures unchanged { OnErr result (current.new.policies ≡ current.old.policies) }
     ensures stays { OnErr result (Stays (K.facts keeper.old) (K.facts keeper.new)) }
     ensures memory { (happened : List Happening) → Remembers happened place current.old.policies
-        → OnErr result (wants_memory event.now (outcome_of (standing happened current.old) place event.now) ≡ true) }
+        → OnErr result (wants_memory K.IN_PLACE event.now (outcome_of (standing happened current.old) place event.now) ≡ true) }
 {
     match event {
         Event::Enter {
@@ -451,14 +452,7 @@ pub fn take<K: Keeper>(
         } => {
             let at = time(current, *moment);
             let stage = (api.as_str(), stage.as_str());
-            let prepared = admit(
-                &current.tables,
-                &current.ready,
-                alloc,
-                at,
-                stage,
-                value.as_str(),
-            )?;
+            let prepared = admit(&current.tables, &current.ready, at, stage, value.as_str());
             let taken = carry_out(current, keeper, alloc, prepared)?;
             current.latest = at;
             Ok(taken)

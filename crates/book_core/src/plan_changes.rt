@@ -1,7 +1,8 @@
 // The commands on keys and plans: what each refuses, in order, and the change that it makes ready.
-ghost use Rattle.std.specs.Prelude.{◌≡◌, ◌<◌, true, false, Some, IfOk, IfSome, IsNone, OnErr, List, ℕ, is_some};
+ghost use Rattle.std.specs.Prelude.{◌≡◌, ◌<◌, true, false, Some, IfOk, IfSome, IsNone, OnErr, List, ℕ, length};
 ghost use Rattle.std.specs.Option.{option_copied};
-ghost use Rattle.keeper_core.specs.Lists.{Lists, join_row, plan_row};
+ghost use Rattle.keeper_core.specs.Joins.{join_at};
+ghost use Rattle.keeper_core.specs.Lists.{plan_row};
 ghost use Rattle.keeper_core.specs.declared.rows.PlanRow.{PlanRow as PlanRowOf};
 ghost use Rattle.usage_plans.specs.Deeds.{kind_number, same_throttle as same_throttle_of};
 ghost use Rattle.usage_plans.specs.Rows.{row_with, tally_in, terms_in};
@@ -17,7 +18,8 @@ ghost use Rattle.book_core.specs.Changes.{IsMeant, IsPrepared};
 use crate::changes::{Change, Held, Prepared};
 use crate::finds::find_key;
 use crate::plans::{
-    all_stand, has_other_plan, is_stage_taken, plan_stages, stages_column, stages_once,
+    all_stand, are_stage_names, has_other_plan, is_stage_taken, plan_stages, stages_column,
+    stages_once,
 };
 use book_opening::{Ready, is_key_value, stages_of};
 use book_rules::{Refusal, Reply, Usage};
@@ -25,8 +27,8 @@ use gw_base::{Memory, Seq, Text, is_name};
 use keeper_core::{JoinRow, KeyRow, PlanRow, Row, Tables};
 use std::alloc::Global;
 use usage_plans::{
-    Allowance, GrantRefusal, MOST_UNITS, PeriodKind, Quota, Tally, Throttle, tally_of, terms_of,
-    write_tally,
+    Allowance, GrantRefusal, MOST_UNITS, PeriodKind, Quota, Tally, Throttle, numbers_of, tally_of,
+    terms_of,
 };
 
 /// The most keys, the most plans, the most stages of one, and the most joins.
@@ -160,7 +162,7 @@ fn plan_refusal(
     requires fits { (name : List ℕ) (row : PlanRowOf) → plan_row tables.now.lists name ≡ Some row → IsFitPlan row }
     ensures { result ≡ first_refusal (put_plan_tests tables.now.lists plan.now throttle quota stages.now) }
 {
-    if !is_name(plan) {
+    if !is_name(plan) || !are_stage_names(stages) {
         return Some(Refusal::BadName);
     }
     if !is_throttle(throttle) {
@@ -309,7 +311,7 @@ fn joined_row(
     ensures { IfOk result (λ row. row ≡ row_with (unused_of plan.now key.now) (joined_at (terms_in of.now) t)) }
 {
     let mut row = unused(alloc, plan, key)?;
-    write_tally(&mut row, Tally::joined(terms_of(of), t));
+    row.write_numbers(numbers_of(Tally::joined(terms_of(of), t)));
     Ok(row)
 }
 
@@ -350,58 +352,35 @@ pub fn join_key(
     }))
 }
 
-/// The row of a join with the numbers of this tally.
-pub fn with_tally(alloc: Global, row: &JoinRow, tally: Tally) -> Result<JoinRow, Memory>
-    ensures { IfOk result (λ made. made ≡ row_with row.now tally) }
-{
-    let mut made = unused(alloc, &row.plan, &row.key)?;
-    write_tally(&mut made, tally);
-    Ok(made)
-}
-
-// The row of a join that is granted more.
-fn granted(
-    alloc: Global,
-    t: u64,
-    of: &PlanRow,
-    row: &JoinRow,
-    amount: u64,
-) -> Result<Prepared, Memory>
+// The join at this place, which is granted more.
+fn granted(tables: &Tables, t: u64, of: &PlanRow, at: usize, amount: u64) -> Prepared
     requires early { t < 4102444800000 }
     requires plan { IsFitPlan of.now }
-    requires join { IsFitJoin of.now row.now t }
-    ensures prepared { IfOk result (λ prepared. (lists : Lists) → is_some (join_row lists row.now.plan row.now.key) ≡ true → IsPrepared lists (granted_of row.now (grant_made (terms_in of.now) (tally_in row.now) amount t)) prepared) }
-    ensures meant { IfOk result (IsMeant true) }
-    ensures memory { OnErr result (takes_memory (granted_of row.now (grant_made (terms_in of.now) (tally_in row.now) amount t)) ≡ true) }
+    requires inside { at < length tables.now.lists.joins }
+    requires join { IsFitJoin of.now (join_at tables.now.lists at) t }
+    ensures prepared { IsPrepared tables.now.lists (granted_of (join_at tables.now.lists at) (grant_made (terms_in of.now) (tally_in (join_at tables.now.lists at)) amount t)) result }
+    ensures meant { IsMeant true result }
 {
-    match tally_of(row).grant(terms_of(of), amount, t) {
-        Ok(tally) => Ok(Prepared::Rewrites(with_tally(alloc, row, tally)?, Reply::Done)),
-        Err(GrantRefusal::NoQuota) => Ok(Prepared::Says(Reply::Refused(Refusal::NoQuota))),
-        Err(GrantRefusal::TooLarge) => Ok(Prepared::Says(Reply::Refused(Refusal::TooLarge))),
+    match tally_of(tables.join_at(at)).grant(terms_of(of), amount, t) {
+        Ok(tally) => Prepared::Rewrites(at, numbers_of(tally), Reply::Done),
+        Err(GrantRefusal::NoQuota) => Prepared::Says(Reply::Refused(Refusal::NoQuota)),
+        Err(GrantRefusal::TooLarge) => Prepared::Says(Reply::Refused(Refusal::TooLarge)),
     }
 }
 
-/// Grant: the period that stands allows so many calls more.
-pub fn grant(
-    tables: &Tables,
-    alloc: Global,
-    t: u64,
-    plan: &Text,
-    key: &Text,
-    amount: u64,
-) -> Result<Prepared, Memory>
+/// Grant: the period that stands allows so many calls more. It takes no memory.
+pub fn grant(tables: &Tables, t: u64, plan: &Text, key: &Text, amount: u64) -> Prepared
     requires fits { AreFit tables.now.lists t }
-    ensures prepared { IfOk result (IsPrepared tables.now.lists (grant_of tables.now.lists t plan.now key.now amount)) }
-    ensures meant { IfOk result (IsMeant true) }
-    ensures memory { OnErr result (takes_memory (grant_of tables.now.lists t plan.now key.now amount) ≡ true) }
+    ensures prepared { IsPrepared tables.now.lists (grant_of tables.now.lists t plan.now key.now amount) result }
+    ensures meant { IsMeant true result }
 {
-    let (Some(row), Some(of)) = (
-        tables.join(plan.as_str(), key.as_str()),
+    let (Some(at), Some(of)) = (
+        tables.find_join(plan.as_str(), key.as_str()),
         tables.plan(plan.as_str()),
     ) else {
-        return Ok(Prepared::Says(Reply::Refused(Refusal::NoJoin)));
+        return Prepared::Says(Reply::Refused(Refusal::NoJoin));
     };
-    granted(alloc, t, of, row, amount)
+    granted(tables, t, of, at, amount)
 }
 
 // What is shown of the period that stands.

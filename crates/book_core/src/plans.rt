@@ -7,11 +7,11 @@ ghost use Rattle.std.specs.String.{string_bytes};
 ghost use Rattle.keeper_core.specs.Lists.{plan_row};
 ghost use Rattle.book_rules.specs.Admissions.{allows, plan_for as plan_for_of};
 ghost use Rattle.book_rules.specs.PlanCommands.{all_stand as all_stand_of, has_other_plan as has_other_plan_of, is_other_plan as is_other_plan_of, is_stage_taken as is_stage_taken_of};
-ghost use Rattle.book_rules.specs.PlanStages.{each_stage_once, same_stage, stage_field, stages_column as stages_column_of, stages_of};
+ghost use Rattle.book_rules.specs.PlanStages.{are_stage_names as are_stage_names_of, each_stage_once, same_stage, stage_field, stages_column as stages_column_of, stages_of};
 ghost use Rattle.book_opening.specs.Ready.{AreReady};
 
 use book_opening::{Ready, is_among, share_a_stage};
-use gw_base::{Memory, Text};
+use gw_base::{Memory, Text, is_name};
 use keeper_core::{JoinRow, PlanRow, Tables};
 use std::alloc::Global;
 
@@ -69,6 +69,13 @@ pub fn plan_stages<'a>(tables: &Tables, ready: &'a Ready, plan: &str) -> Option<
     None
 }
 
+/// Whether both parts of each stage are names.
+pub fn are_stage_names(stages: &[(Text, Text)]) -> bool
+    ensures { result ≡ are_stage_names_of stages.now }
+{
+    stages.iter().all(|stage| is_name(stage.0.as_str()) && is_name(stage.1.as_str()))
+}
+
 /// Whether all of these stages stand.
 pub fn all_stand(tables: &Tables, stages: &[(Text, Text)]) -> bool
     ensures { result ≡ all_stand_of tables.now.lists stages.now }
@@ -89,8 +96,8 @@ fn is_other_plan(
     ensures { result ≡ is_other_plan_of tables.now.lists plan.now stages.now key.now other.now }
 {
     other.plan.as_str() != plan
-        && share_a_stage(stages, others)
         && tables.join(other.plan.as_str(), key).is_some()
+        && share_a_stage(stages, others)
 }
 
 /// Whether the key joined another plan that has one of these stages.

@@ -1,5 +1,5 @@
 // What a command comes to, before the keeper is asked.
-ghost use Rattle.std.specs.Prelude.{◌≡◌, true, OnErr, IfOk};
+ghost use Rattle.std.specs.Prelude.{◌≡◌, false, true, OnErr, IfOk};
 ghost use Rattle.book_rules.specs.Commands.{commanded};
 ghost use Rattle.book_rules.specs.Fits.{AreFit};
 ghost use Rattle.book_rules.specs.History.{rewrites_by};
@@ -28,7 +28,7 @@ pub fn prepare(
     requires fits { AreFit tables.now.lists t }
     ensures prepared { IfOk result (IsPrepared tables.now.lists (commanded tables.now.lists t command.now)) }
     ensures meant { IfOk result (IsMeant (rewrites_by command.now)) }
-    ensures memory { OnErr result (takes_memory (commanded tables.now.lists t command.now) ≡ true) }
+    ensures memory { OnErr result ((takes_memory (commanded tables.now.lists t command.now) ≡ true) × (rewrites_by command.now ≡ false)) }
 {
     match command {
         Command::PutApi { api, definition } => put_api(tables, alloc, api, definition),
@@ -75,7 +75,7 @@ pub fn prepare(
             stages.as_slice(),
         ),
         Command::JoinKey { plan, key } => join_key(tables, ready, alloc, t, plan, key),
-        Command::Grant { plan, key, amount } => grant(tables, alloc, t, plan, key, *amount),
+        Command::Grant { plan, key, amount } => Ok(grant(tables, t, plan, key, *amount)),
         Command::Flush { api, stage } => Ok(Prepared::Says(show_flush(tables, api, stage))),
         Command::Usage { plan, key } => Ok(Prepared::Says(show_usage(tables, t, plan, key))),
         Command::Shutdown => Ok(Prepared::Says(Reply::Done)),

@@ -5,7 +5,8 @@ use Rattle.keeper_core.specs.Keeping.{KeeperFacts, Planned, fails_now, one_more}
 use Rattle.policy_core.specs.declared.policy.Policy.{Policy}
 use Rattle.policy_core.specs.declared.policy.Statement.{Statement}
 use Rattle.policy_memory.specs.declared.names.PolicyName.{PolicyName}
-use Rattle.book_rules.specs.Machine.{State, opened, outcome_of, row_of, told, after}
+use Rattle.book_rules.specs.Machine.{State, opened, outcome_of, row_of, told, after, takes_memory, is_flush}
+use Rattle.book_rules.specs.Outcomes.{Outcome}
 use Rattle.book_rules.specs.declared.events.Limits.{Limits}
 use Rattle.book_rules.specs.declared.events.Command.{Command}
 use Rattle.book_rules.specs.declared.events.Command.TheVariants.{PutApi, Deploy, PutStage, PutCanary, PromoteCanary, PutKey, PutPlan, JoinKey, Grant, Flush, Usage, Shutdown}
@@ -117,6 +118,10 @@ rewrites (Learn moment name policy ttl) = false
 rewrites (Admit moment api stage value) = true
 rewrites (Admin moment command) = rewrites_by command
 rewrites (Leave status cause) = false
+
+-- Memory may run out where an outcome takes some, and where a flush is noted. A row that a keeper rewrites in its place takes none.
+abbrev pub wants_memory : Bool → Event → Outcome → Bool
+wants_memory in_place event outcome = takes_memory outcome && not (in_place && rewrites event) || is_flush event
 
 -- Another change makes two calls, the second where the first succeeds. A change is kept where all of its calls succeed.
 abbrev pub keeps : Bool → Planned → Bool

@@ -133,9 +133,6 @@ is_flush (Admin moment (Usage plan key)) = false
 is_flush (Admin moment Shutdown) = false
 is_flush (Leave status cause) = false
 
-abbrev pub wants_memory : Event → Outcome → Bool
-wants_memory event outcome = takes_memory outcome || is_flush event
-
 -- the reply where the change was kept, and where it was not
 abbrev pub told : Bool → Reply → Bool → Reply
 told changing reply kept = if changing && not kept then Store else reply

@@ -24,7 +24,7 @@ use Rattle.keeper_core.specs.declared.rows.JoinRow.{JoinRow}
 use Rattle.book_rules.specs.Limits.{most_keys, most_plans, most_joins, most_plan_stages, most_per_second, most_versions}
 use Rattle.book_rules.specs.Names.{is_key_value}
 use Rattle.book_rules.specs.Outcomes.{Outcome, says, writes, unless_refused}
-use Rattle.book_rules.specs.PlanStages.{stages_of, share_a_stage, each_stage_once, stages_column}
+use Rattle.book_rules.specs.PlanStages.{are_stage_names, stages_of, share_a_stage, each_stage_once, stages_column}
 use Rattle.book_rules.specs.declared.replies.Refusal.{Refusal}
 use Rattle.book_rules.specs.declared.replies.Refusal.TheVariants.{BadName, NoStage, NoKey, NoPlan, NoJoin, NoQuota, BadThrottle, BadQuota, BadKey, ValueTaken, StageTaken, TooLarge, Full}
 use Rattle.book_rules.specs.declared.replies.Reply.TheVariants.{Done, Refused}
@@ -88,7 +88,7 @@ version_with (Some row) throttle = (terms_put (terms_in row) throttle None).vers
 
 abbrev pub put_plan_tests : Lists → List ℕ → Option Throttle → Option Quota → Pairs → List (Bool × Refusal)
 put_plan_tests lists plan throttle quota stages =
-    (not (is_name plan), BadName)
+    (not (is_name plan && are_stage_names stages), BadName)
     ∷ (not (is_throttle throttle), BadThrottle)
     ∷ (not (is_quota quota), BadQuota)
     ∷ (not (all_stand lists stages), NoStage)

@@ -1,6 +1,6 @@
 -- The stages of usage plans, as the columns of rows name them.
 use Rattle.std.specs.Prelude.{ℕ, ◌+◌, ◌==◌, Bool, true, not, ◌&&◌, List, [], ◌∷◌, ◌++◌, map, take, drop, position, Option, Some, None, option_map, if◌then◌else◌}
-use Rattle.std.specs.List.{join_with_byte, list_any}
+use Rattle.std.specs.List.{join_with_byte, list_all, list_any}
 use Rattle.std.specs.Option.{option_and_then}
 use Rattle.std.specs.Str.{bytes_eq}
 use Rattle.gw_base.specs.Lists.{last_of_each}
@@ -32,6 +32,10 @@ same_stage a b = bytes_eq a.0 b.0 && bytes_eq a.1 b.1
 abbrev pub stages_differ : Pairs → Bool
 stages_differ [] = true
 stages_differ (stage ∷ stages) = not (list_any (same_stage stage) stages) && stages_differ stages
+
+-- both parts of each stage are names
+abbrev pub are_stage_names : Pairs → Bool
+are_stage_names stages = list_all (λ (stage : List ℕ × List ℕ). is_name stage.0 && is_name stage.1) stages
 
 -- the stages of a plan's row
 abbrev pub or_none : Option Pairs → Pairs

@@ -1,2 +1,4 @@
+-- what contracts see of the program's keeper
+pub mod Keepers
 -- why no keeper is lent
 pub mod Starts

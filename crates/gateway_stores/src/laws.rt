@@ -1,6 +1,6 @@
 //! What holds of every keeper over a file.
 ghost use denote.Param.Send.{IsSend};
-ghost use Rattle.keeper_sqlite.specs.contracts.keeper.SqliteKeeper as keeper;
+ghost use Rattle.gateway_stores.specs.contracts.keeper.FileKeeper as keeper;
 
 /// A keeper over a file may go to another thread, so that lanes can serve its tables.
 #[tactic(auto, using(crate::proofs::Sent::keeper_send))]

@@ -19,7 +19,11 @@
 //! law ([`laws`]), a keeper may go to another thread.
 #![tactic(auto)]
 
+mod keeper;
 pub mod laws;
+mod path;
 mod stores;
 
+pub use keeper::FileKeeper;
+pub use path::StorePath;
 pub use stores::{FileStores, start_of};

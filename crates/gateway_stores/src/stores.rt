@@ -1,10 +1,12 @@
 // Stores in files.
 ghost use Rattle.std.specs.Prelude.{◌≡◌, nat_lt};
-ghost use Rattle.keeper_sqlite.specs.Stands.{told_by};
+ghost use Rattle.gateway_stores.specs.Keepers.{told_of};
 ghost use Rattle.gateway_stores.specs.Starts.{start_by};
 
+use crate::keeper::FileKeeper;
+use crate::path::StorePath;
 use gateway_machine::Stores;
-use keeper_sqlite::{SqliteKeeper, StartFault};
+use keeper_sqlite::StartFault;
 use outside_core::KeeperStart;
 use std::alloc::Global;
 
@@ -33,17 +35,20 @@ pub fn start_of(fault: StartFault) -> KeeperStart
 }
 
 impl<'r> Stores for FileStores<'r> {
-    type Keep = SqliteKeeper;
+    type Keep = FileKeeper;
 
-    fn open(&mut self, _alloc: Global, name: &str) -> Result<SqliteKeeper, KeeperStart> {
-        match SqliteKeeper::start(self.rt, name) {
+    fn open(&mut self, alloc: Global, name: &str) -> Result<FileKeeper, KeeperStart> {
+        let Ok(file) = StorePath::new(*self.rt, name) else {
+            return Err(KeeperStart::Memory);
+        };
+        match FileKeeper::start(alloc, file) {
             Ok(keeper) => Ok(keeper),
             Err(fault) => Err(start_of(fault)),
         }
     }
 
-    fn has_failed(keep: &SqliteKeeper) -> bool
-        ensures { result ≡ nat_lt 0 (told_by keep.now).loads }
+    fn has_failed(keep: &FileKeeper) -> bool
+        ensures { result ≡ nat_lt 0 (told_of keep.now).loads }
     {
         keep.loads() > 0
     }

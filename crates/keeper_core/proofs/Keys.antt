@@ -1,5 +1,6 @@
 -- The keys of the seven tables are ordered, so that each search finds its place and each row that is put keeps the order.
-use Rattle.std.proofs.Common.{◌≡◌, ℕ, nat_lt, ◌==◌, Bool, ◌&&◌, ◌||◌, List, [], ◌∷◌, length, Result, refl, sym, arith}
+use Rattle.std.proofs.Common.{◌≡◌, ℕ, ◌<◌, get_or, Some, nat_lt, ◌==◌, Bool, ◌&&◌, ◌||◌, List, [], ◌∷◌, length, Result, refl, sym, arith}
+use Rattle.std.specs.List.{position}
 use Rattle.std.specs.List.Sorted.{IsSearchInRange, IsBinarySearchResult}
 use Rattle.std.specs.Str.{bytes_eq}
 use Rattle.std.specs.Cmp.Lexicographic.{slice_cmp}
@@ -11,7 +12,7 @@ use Rattle.std.proofs.lemmas.Cmp.{nat_cmp_total, nat_list_cmp_total, on_total, t
 use Rattle.std.proofs.lemmas.Map.Text.{is_eq-slice_cmp}
 use Rattle.keeper_core.specs.Lists.{Lists, Ascends, AreInOrder, ListsStayInOrder, put, put_all, put_by, is_meta, is_api, is_deployment, is_stage, is_key, is_plan, is_join, meta_behind, api_behind, deployment_behind, stage_behind, key_behind, plan_behind, join_behind}
 use Rattle.keeper_core.specs.Places.{IsPlace, place_of}
-use Rattle.keeper_core.proofs.Orders.{OrdersBy, orders_by, placed, put_ascends}
+use Rattle.keeper_core.proofs.Orders.{OrdersBy, found, orders_by, placed, put_ascends}
 use Rattle.keeper_core.specs.declared.rows.MetaRow.{MetaRow}
 use Rattle.keeper_core.specs.declared.rows.ApiRow.{ApiRow}
 use Rattle.keeper_core.specs.declared.rows.DeploymentRow.{DeploymentRow}
@@ -181,6 +182,15 @@ pub join_kept : (row : JoinRow) (rows : List JoinRow) → Ascends (λ row. join_
 join_kept row =
     put_ascends (λ (row : JoinRow). join_behind row.plan row.key) (λ other. ordering_then (slice_cmp nat_cmp other.plan row.plan) (slice_cmp nat_cmp other.key row.key)) (join_order row.plan row.key)
     (is_join row.plan row.key) (join_behind row.plan row.key) (join_same row.plan row.key) (join_greater row.plan row.key) row (tied_itself (then_total (on_total (λ (k : List ℕ × List ℕ). k.0) nat_list_cmp_total) (on_total (λ (k : List ℕ × List ℕ). k.1) nat_list_cmp_total)) (row.plan, row.key))
+
+-- a join stands at the place of its own key
+pub join_found : (rows : List JoinRow) (i : ℕ) (d : JoinRow) → Ascends (λ row. join_behind row.plan row.key) rows → i < length rows
+    → position (is_join (get_or rows i d).plan (get_or rows i d).key) rows ≡ Some i
+join_found rows i d up inside =
+    let row : JoinRow = get_or rows i d in
+    found (λ (row : JoinRow). join_behind row.plan row.key) (λ other. ordering_then (slice_cmp nat_cmp other.plan row.plan) (slice_cmp nat_cmp other.key row.key)) (join_order row.plan row.key)
+    (is_join row.plan row.key) (join_behind row.plan row.key) (join_same row.plan row.key) (join_greater row.plan row.key) rows i d up inside
+    (tied_itself (then_total (on_total (λ (k : List ℕ × List ℕ). k.0) nat_list_cmp_total) (on_total (λ (k : List ℕ × List ℕ). k.1) nat_list_cmp_total)) (row.plan, row.key))
 
 put_in_order : (row : Row) (lists : Lists) → AreInOrder lists → AreInOrder (put row lists)
 put_in_order (Meta row) lists order = record { metas = meta_kept row lists.metas order.metas; apis = order.apis; deployments = order.deployments; stages = order.stages; keys = order.keys; plans = order.plans; joins = order.joins }

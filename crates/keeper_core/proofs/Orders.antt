@@ -88,7 +88,7 @@ module _ {R : Type 0} (behind : R → R → Bool) where
     not_equal_before r s Greater e more here = refl
 
     module _ (has_key has_greater : R → Bool) (is : (r : R) → has_key r ≡ is_eq (ord r)) (greater : (r : R) → has_greater r ≡ is_gt (ord r)) where
-      found : (xs : List R) (i : ℕ) (d : R) → Ascends behind xs → i < length xs → ord (get_or xs i d) ≡ Equal → position has_key xs ≡ Some i
+      pub found : (xs : List R) (i : ℕ) (d : R) → Ascends behind xs → i < length xs → ord (get_or xs i d) ≡ Equal → position has_key xs ≡ Some i
       found xs i d up inside here =
           let first : position_or_len has_key xs ≡ i = position_or_len_is has_key xs i d (omega arith)
           (λ k less. is (get_or xs k d) ∙ not_equal_before (get_or xs k d) (get_or xs i d) (ord (get_or xs k d)) refl

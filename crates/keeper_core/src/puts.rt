@@ -1,8 +1,10 @@
 // A row is put in a table: before the first of a greater key, or in the place of the row of its key.
-ghost use Rattle.std.specs.Prelude.{◌≡◌, ◌+◌, ◌-◌, ◌≤◌, length, find, IsOk, IsSome, OnOk, OnErr};
+ghost use Rattle.std.specs.Prelude.{◌≡◌, ◌+◌, ◌-◌, ◌<◌, ◌≤◌, length, find, slice_set, IsOk, IsSome, OnOk, OnErr};
+ghost use Rattle.keeper_core.specs.Joins.{join_in, put_join as put_join_of, with_numbers};
 ghost use Rattle.std.specs.Vec.{vec_capacity};
 ghost use Rattle.keeper_core.specs.Lists.{Ascends, put_by, is_meta, is_api, is_deployment, is_stage, is_key, is_plan, is_join, meta_behind, api_behind, deployment_behind, stage_behind, key_behind, plan_behind, join_behind};
 
+use crate::numbers::JoinNumbers;
 use crate::place::{Place, put_at};
 use crate::rows::{ApiRow, DeploymentRow, JoinRow, KeyRow, MetaRow, PlanRow, StageRow};
 use crate::searches::{
@@ -98,20 +100,6 @@ pub(crate) fn put_join(rows: &mut Vec<JoinRow>, row: JoinRow) -> Result<(), Memo
     put_at(rows, place, row)
 }
 
-// The key's columns stay, and they are the row's own.
-fn write_use(old: &mut JoinRow, row: &JoinRow)
-    ensures { old.new ≡ record row.now { plan = old.old.plan; key = old.old.key } }
-{
-    old.level = row.level;
-    old.at = row.at;
-    old.tversion = row.tversion;
-    old.pkind = row.pkind;
-    old.pnumber = row.pnumber;
-    old.allowance = row.allowance;
-    old.used = row.used;
-    old.first = row.first;
-}
-
 pub(crate) fn rewrite_join(rows: &mut Vec<JoinRow>, row: &JoinRow)
     requires order { Ascends (λ row. join_behind row.plan row.key) rows.old.items }
     requires there { IsSome (find (is_join row.now.plan row.now.key) rows.old.items) }
@@ -120,6 +108,17 @@ pub(crate) fn rewrite_join(rows: &mut Vec<JoinRow>, row: &JoinRow)
     ensures room { vec_capacity rows.new - length rows.new.items ≡ vec_capacity rows.old - length rows.old.items }
 {
     if let Place::At(i) = place_of_join(rows, row.plan.as_str(), row.key.as_str()) {
-        write_use(&mut rows[i], row);
+        rows[i].write_numbers(row.numbers());
     }
+}
+
+pub(crate) fn write_join(rows: &mut Vec<JoinRow>, at: usize, numbers: JoinNumbers)
+    requires order { Ascends (λ row. join_behind row.plan row.key) rows.old.items }
+    requires inside { at < length rows.old.items }
+    ensures rows { rows.new.items ≡ slice_set rows.old.items at (with_numbers (join_in rows.old.items at) numbers) }
+    ensures put { rows.new.items ≡ put_join_of (with_numbers (join_in rows.old.items at) numbers) rows.old.items }
+    ensures order { Ascends (λ row. join_behind row.plan row.key) rows.new.items }
+    ensures room { vec_capacity rows.new - length rows.new.items ≡ vec_capacity rows.old - length rows.old.items }
+{
+    rows[at].write_numbers(numbers);
 }

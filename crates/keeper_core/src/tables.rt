@@ -1,14 +1,16 @@
 // The tables in memory.
-ghost use Rattle.std.specs.Prelude.{◌≡◌, ◌+◌, ◌-◌, ◌≤◌, length, IfOk, IsOk, IsSome, OnOk, OnErr, if◌then◌else◌};
+ghost use Rattle.std.specs.Prelude.{◌≡◌, ◌+◌, ◌-◌, ◌<◌, ◌≤◌, length, slice_set, IfOk, IsOk, IsSome, OnOk, OnErr, if◌then◌else◌};
 ghost use Rattle.std.specs.Vec.{vec_capacity};
 ghost use Rattle.keeper_core.specs.Held.{room_in, is_in};
-ghost use Rattle.keeper_core.specs.Lists.{no_rows, join_row, put as put_of, rows_in, table_of};
+ghost use Rattle.keeper_core.specs.Joins.{join_at, with_numbers};
+ghost use Rattle.keeper_core.specs.Lists.{AreInOrder, no_rows, join_row, put as put_of, rows_in, table_of};
 ghost use Rattle.keeper_core.specs.declared.rows.Row.TheVariants.{Join as join};
 ghost use Rattle.keeper_core.specs.declared.table.Table.{Table as TableName};
 
 mod finds;
 
 use crate::copies::copy_rows;
+use crate::numbers::JoinNumbers;
 use crate::puts;
 use crate::rows::{ApiRow, DeploymentRow, JoinRow, KeyRow, MetaRow, PlanRow, Row, StageRow};
 use crate::table::Table;
@@ -116,6 +118,16 @@ impl Tables {
         puts::rewrite_join(&mut self.joins, row);
     }
 
+    /// Replaces the numbers of the join at this place, counted from 0 in the order of the keys, without memory.
+    pub fn write_join(&mut self, at: usize, numbers: JoinNumbers)
+        requires inside { at < length self.old.lists.joins }
+        ensures put { self.new.lists ≡ put_of (join (with_numbers (join_at self.old.lists at) numbers)) self.old.lists }
+        ensures joins { self.new.lists ≡ record self.old.lists { joins = slice_set self.old.lists.joins at (with_numbers (join_at self.old.lists at) numbers) } }
+        ensures room { self.new.room ≡ self.old.room }
+    {
+        puts::write_join(&mut self.joins, at, numbers);
+    }
+
     /// Makes room for so many rows more in a table. It takes memory only where that room is not there. No table loses
     /// room, whatever the answer.
     pub fn reserve(&mut self, table: Table, more: usize) -> Result<(), Memory>
@@ -133,6 +145,13 @@ impl Tables {
             Table::Plans => reserve_rows(&mut self.plans, more),
             Table::Joins => reserve_rows(&mut self.joins, more),
         }
+    }
+
+    /// The rows of each table are in the order of their keys. Nothing is done.
+    pub fn are_in_order(&self)
+        ensures { AreInOrder self.now.lists }
+    {
+        let _rows = &self.metas;
     }
 
     /// How many rows a table has.

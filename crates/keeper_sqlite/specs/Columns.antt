@@ -1,10 +1,11 @@
 -- How the rows of the tables stand in the columns of the file: a text as TEXT, a number as INTEGER, which has a sign and 64 bits.
-use Rattle.std.specs.Prelude.{◌≡◌, ℕ, ◌+◌, ◌<◌, ◌^◌, nat_lt, pos, negsuc, Bool, true, false, List, [], ◌∷◌, length, ⊤}
+use Rattle.std.specs.Prelude.{◌≡◌, ℕ, ◌+◌, ◌<◌, ◌^◌, nat_lt, pos, negsuc, Bool, true, false, List, [], ◌∷◌, length, take, ⊤}
 use Rattle.std.specs.List.{list_all}
 use Rattle.std.specs.Str.{IsUtf8}
 use Rattle.sqlite_value.specs.declared.value.Value.{Value}
 use Rattle.sqlite_value.specs.declared.value.Value.TheVariants.{Null, Int, Real, Text, Blob}
 use Rattle.sqlite_value.specs.Order.{column}
+use Rattle.keeper_core.specs.Lists.{table_of}
 use Rattle.keeper_core.specs.declared.rows.MetaRow.{MetaRow}
 use Rattle.keeper_core.specs.declared.rows.ApiRow.{ApiRow}
 use Rattle.keeper_core.specs.declared.rows.DeploymentRow.{DeploymentRow}
@@ -54,6 +55,20 @@ columns (Stage row) = stage_columns row
 columns (Key row) = key_columns row
 columns (Plan row) = plan_columns row
 columns (Join row) = join_columns row
+
+-- how many of the columns, from the first on, are the key
+abbrev pub key_width : Table → ℕ
+key_width Metas = 1
+key_width Apis = 1
+key_width Deployments = 2
+key_width Stages = 2
+key_width Keys = 1
+key_width Plans = 1
+key_width Joins = 2
+
+-- the values of the row's key
+abbrev pub key_values : Row → List Value
+key_values row = take (key_width (table_of row)) (columns row)
 
 -- INTEGER takes the number: it is at most 9,223,372,036,854,775,807
 abbrev pub takes : Value → Bool

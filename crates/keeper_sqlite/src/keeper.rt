@@ -1,15 +1,18 @@
 // A keeper over a file.
-ghost use Rattle.std.specs.Prelude.{◌≡◌, ◌++◌, ◌∷◌, [], false, true, not, All, IfOk, IfErr, OnOk, OnErr};
-ghost use Rattle.keeper_core.specs.Keeping.{HasKeepCause, is_failed};
+ghost use Rattle.std.specs.Prelude.{◌≡◌, ◌++◌, ◌∷◌, [], false, true, not, All, IfOk, IfErr, IsSome, OnOk, OnErr};
+ghost use Rattle.keeper_core.specs.Keeping.{HasKeepCause, HasLoadCause, is_failed};
 ghost use Rattle.gw_base.specs.Feed.{raised};
 ghost use Rattle.keeper_sqlite.specs.Columns.{can_be_written as can_be_written_of};
+ghost use Rattle.keeper_sqlite.specs.Links.{IsChange, IsLoad, IsRewrite};
 ghost use Rattle.keeper_sqlite.specs.Stands.{told_by};
 ghost use Rattle.keeper_sqlite.specs.Version.{IsOfMeta};
 
-use crate::database::{Database, is_new, load_tables, make_tables, open, write_join, write_rows};
-use crate::fault::StartFault;
+use crate::database::{is_new, make_tables};
+use crate::fault::{StartFault, start_fault};
+use crate::link::{Link, open};
+use crate::source::StoreFile;
 use crate::version::test_version;
-use crate::writing::can_be_written;
+use crate::writing::{can_be_written, join_can_be_written};
 use gw_base::Memory;
 use keeper_core::{JoinRow, KeepFault, Keeper, LoadFault, Row, Tables};
 use sqlite::{Alter, Connection};
@@ -18,8 +21,11 @@ use std::marker::Model;
 use std::mem;
 
 /// A keeper of tables in a file of SQLite.
-pub struct SqliteKeeper {
-    conn: Database,
+///
+/// A failure of the disk may shut the connection to the file. Then the next call opens the file anew, and undoes the change that
+/// was refused, which may be there after all. Where that fails the call is refused, and the next one tries again.
+pub struct SqliteKeeper<B: Alter + Drop, F: StoreFile<Conn = Connection<B>>> {
+    link: Link<B, F>,
     staged: Vec<Row>,
     faults: u64,
     loads: u64,
@@ -27,28 +33,30 @@ pub struct SqliteKeeper {
 
 // Written by hand, so that what holds a keeper sees one call. It copies the log into the file; where that fails, the log
 // stays beside the file, and the next start reads both.
-impl Drop for SqliteKeeper {
+impl<B: Alter + Drop, F: StoreFile<Conn = Connection<B>>> Drop for SqliteKeeper<B, F> {
     fn drop(self) {
         let SqliteKeeper {
-            conn,
+            link,
             staged: _,
             faults: _,
             loads: _,
         } = self;
-        let _ = conn.close();
+        link.close();
     }
 }
 
-impl Model for SqliteKeeper {
-    ghost use Rattle.std.specs.Prelude.{◌≡◌, false, true, All};
+impl<B: Alter + Drop, F: StoreFile<Conn = Connection<B>>> Model for SqliteKeeper<B, F> {
+    ghost use Rattle.std.specs.Prelude.{◌≡◌, true, All};
     ghost use Rattle.keeper_sqlite.specs.Columns.{can_be_written};
-    ghost use Rattle.keeper_sqlite.specs.Stands.{StoreStand};
+    ghost use Rattle.keeper_sqlite.specs.Stands.{StoreStand, stand_code};
 
-    ghost Value = { StoreStand };
+    ghost Value = { StoreStand B };
 
-    ghost view = { λ k. record { staged = k.staged.items; faults = k.faults; loads = k.loads } };
+    ghost coded = { stand_code B.code };
 
-    ghost invariant = { λ k. (k.conn.in_transaction ≡ false) × All (λ row. can_be_written row ≡ true) k.staged.items };
+    ghost view = { λ k. record { staged = k.staged.items; faults = k.faults; loads = k.loads; link = k.link } };
+
+    ghost invariant = { λ k. All (λ row. can_be_written row ≡ true) k.staged.items };
 }
 
 fn raise(count: u64) -> u64
@@ -70,23 +78,26 @@ fn prepare<S: Alter>(alloc: Global, conn: &mut Connection<S>) -> Result<(), Star
     }
 }
 
-impl SqliteKeeper {
-    /// Opens the store at this path, or makes it.
-    pub fn start(rt: &HostRuntime, path: &str) -> Result<SqliteKeeper, StartFault>
-        ensures ok { IfOk result (λ keeper. keeper ≡ record { staged = []; faults = 0; loads = 0 }) }
+impl<B: Alter + Drop, F: StoreFile<Conn = Connection<B>>> SqliteKeeper<B, F> {
+    /// Opens the store in this file, or makes it.
+    pub fn start(alloc: Global, mut file: F) -> Result<SqliteKeeper<B, F>, StartFault>
+        ensures unused { IfOk result (λ keeper. (keeper.staged ≡ []) × (keeper.faults ≡ 0) × (keeper.loads ≡ 0)) }
+        ensures open { IfOk result (λ keeper. IsSome keeper.link.conn × (keeper.link.owed ≡ [])) }
         ensures err { IfErr result IsOfMeta }
     {
-        let alloc = rt.alloc();
-        let mut conn = open(rt, path)?;
+        let mut conn = match open(&mut file) {
+            Ok(conn) => conn,
+            Err(error) => return Err(start_fault(error)),
+        };
         match prepare(alloc, &mut conn) {
             Ok(()) => Ok(SqliteKeeper {
-                conn,
+                link: Link::new(alloc, file, conn),
                 staged: Vec::new(alloc),
                 faults: 0,
                 loads: 0,
             }),
             Err(fault) => {
-                let _ = conn.close();
+                file.close(conn);
                 Err(fault)
             }
         }
@@ -111,6 +122,7 @@ impl SqliteKeeper {
     pub fn stage(&mut self, alloc: Global, row: &Row) -> Result<(), KeepFault>
         ensures ok { OnOk result (self.new.staged ≡ self.old.staged ++ row.now ∷ []) }
         ensures err { OnErr result (self.new.staged ≡ []) }
+        ensures link { self.new.link ≡ self.old.link }
         ensures fails { is_failed result ≡ not (can_be_written_of row.now) }
         ensures cause { HasKeepCause (told_by self.old) (told_by self.new) result }
     {
@@ -130,6 +142,7 @@ impl SqliteKeeper {
     fn count(&mut self, kept: Result<(), KeepFault>) -> Result<(), KeepFault>
         ensures same { result ≡ kept }
         ensures staged { self.new.staged ≡ self.old.staged }
+        ensures link { self.new.link ≡ self.old.link }
         ensures cause { HasKeepCause (told_by self.old) (told_by self.new) result }
     {
         if matches!(kept, Err(KeepFault::Failed)) {
@@ -149,15 +162,19 @@ fn hold(alloc: Global, staged: &mut Vec<Row>, row: &Row) -> Result<(), Memory>
     Ok(())
 }
 
-impl Keeper for SqliteKeeper {
+impl<B: Alter + Drop, F: StoreFile<Conn = Connection<B>>> Keeper for SqliteKeeper<B, F> {
     const IN_PLACE: bool = false;
 
     ghost IN_PLACE = { false };
 
     ghost facts = { told_by };
 
-    fn load(&mut self, alloc: Global) -> Result<Tables, LoadFault> {
-        let loaded = load_tables(alloc, &mut self.conn);
+    fn load(&mut self, alloc: Global) -> Result<Tables, LoadFault>
+        ensures staged { self.new.staged ≡ self.old.staged }
+        ensures cause { HasLoadCause (told_by self.old) (told_by self.new) result }
+        ensures load { IsLoad B.Store F.is_fresh self.old.link self.new.link result }
+    {
+        let loaded = self.link.load(alloc);
         match &loaded {
             Ok(_) | Err(LoadFault::Memory) => {}
             Err(LoadFault::Failed | LoadFault::BadRow(_, _)) => {
@@ -168,18 +185,46 @@ impl Keeper for SqliteKeeper {
         loaded
     }
 
-    fn put_row(&mut self, alloc: Global, row: &Row) -> Result<(), KeepFault> {
+    fn put_row(&mut self, alloc: Global, row: &Row) -> Result<(), KeepFault>
+        ensures ok { OnOk result (self.new.staged ≡ self.old.staged ++ row.now ∷ []) }
+        ensures err { OnErr result (self.new.staged ≡ []) }
+        ensures cause { HasKeepCause (told_by self.old) (told_by self.new) result }
+        ensures link { self.new.link ≡ self.old.link }
+    {
         self.stage(alloc, row)
     }
 
-    fn commit(&mut self, alloc: Global) -> Result<(), KeepFault> {
+    fn commit(&mut self, alloc: Global) -> Result<(), KeepFault>
+        ensures staged { self.new.staged ≡ [] }
+        ensures cause { HasKeepCause (told_by self.old) (told_by self.new) result }
+        ensures change { IsChange B.Store F.is_fresh self.old.staged self.old.link self.new.link result }
+    {
         let staged = mem::replace(&mut self.staged, Vec::new(alloc));
-        let kept = write_rows(alloc, &mut self.conn, &staged);
+        let kept = self.link.change(alloc, &staged);
         self.count(kept)
     }
 
-    fn rewrite(&mut self, alloc: Global, row: &JoinRow) -> Result<(), KeepFault> {
-        let kept = write_join(alloc, &mut self.conn, row);
+    fn rewrite(&mut self, alloc: Global, row: &JoinRow) -> Result<(), KeepFault>
+        requires { self.old.staged ≡ [] }
+        ensures staged { self.new.staged ≡ [] }
+        ensures cause { HasKeepCause (told_by self.old) (told_by self.new) result }
+        ensures change { IsRewrite B.Store F.is_fresh row.now self.old.link self.new.link result }
+    {
+        let kept = rewrite_in(alloc, &mut self.link, row);
         self.count(kept)
     }
+}
+
+fn rewrite_in<B: Alter + Drop, F: StoreFile<Conn = Connection<B>>>(
+    alloc: Global,
+    link: &mut Link<B, F>,
+    row: &JoinRow,
+) -> Result<(), KeepFault>
+    ensures { IsRewrite B.Store F.is_fresh row.now link.old link.new result }
+{
+    if !join_can_be_written(row) {
+        return Err(KeepFault::Failed);
+    }
+    let rows = [Row::Join(row.copy(alloc)?)];
+    link.change(alloc, &rows)
 }

@@ -1,11 +1,13 @@
 //! A keeper of the tables in a file of SQLite, so that they outlive the program.
 //!
-//! * [`SqliteKeeper`] is a [`Keeper`](keeper_core::Keeper) over one file. [`SqliteKeeper::start`] opens the file, or makes it;
-//!   where the keeper is dropped, the file is closed. The file is open in one place at a time.
-//! * [`StartFault`] says why no keeper was started.
+//! * [`SqliteKeeper`] is a [`Keeper`](keeper_core::Keeper) over one file. [`SqliteKeeper::start`] opens the file, or makes it; where the
+//!   keeper is dropped, the file is closed.
+//! * [`StoreFile`] opens the file, and opens it again after a failure of the disk. A program says there where its files are, and what it
+//!   supposes of those that exist.
+//! * [`Undo`] is what undoes the change of one row. [`StartFault`] says why no keeper was started.
 //!
 //! ```text
-//! let mut keeper = SqliteKeeper::start(&rt, "orders.store")?;      // made with its tables, or as it was left
+//! let mut keeper = SqliteKeeper::start(alloc, file)?;              // made with its tables, or as it was left
 //! let row = Row::Key(KeyRow { key, value, enabled: 1 });
 //! keep(&mut keeper, alloc, &row)?;                                 // one transaction
 //! drop(keeper);                                                    // and another start finds the row
@@ -23,33 +25,42 @@
 //! | A call | does | and fails, by count, where |
 //! |---|---|---|
 //! | `put_row` | holds the row in memory | a number of the row is above 9,223,372,036,854,775,807, and nowhere else |
-//! | `commit` | writes the rows that are held in one transaction, the first one first | a statement is refused: a value that another key has, a full disk |
-//! | `rewrite` | writes one join row in one transaction | the same, or a number as above |
+//! | `commit` | writes the rows that are held in one transaction, the first one first; reads before each what undoes it | a statement is refused: a value that another key has, a full disk |
+//! | `rewrite` | writes one join row so | the same, or a number as above |
 //! | `load` | reads the rows of all tables in the order of their keys | a row doesn't fit its table (`BadRow`), or a statement is refused |
+//! | the call after a failure that shut the connection | opens the file anew, undoes the refused change, then goes on | the file can't be opened, or the change can't be undone: then the next call tries again |
 //!
-//! What is promised: what `keeper_core` promises of every keeper that tells neither its tables nor which calls fail: what is
-//! staged after each call, that a fault comes only where its count rose, and that want of memory raises none. That `put_row`
-//! fails exactly where a number can't be written, by [`SqliteKeeper::stage`].
+//! What is promised: what `keeper_core` promises of every keeper that reports neither its tables nor which calls fail: what is staged
+//! after each call, and that a fault comes only where its count rose. That `put_row` fails exactly where a number can't be written, by
+//! [`SqliteKeeper::stage`]. And, where the disk has returned what was written (`specs/Steps.antt`, `specs/Links.antt`):
 //!
-//! Inside: that the values of a row that are written and those that are read are the same columns; that a row which is named is
-//! the first of its answer that can be no row of its table; that no transaction is open between two calls; and, by the clauses
-//! of the crate `sqlite`, that a commit or a rewrite is one step. A crash at any moment of it leaves what one before could
-//! leave, or one certain database; and, where the disk has returned what was written, that database is what is committed where
-//! the change is kept, and what was committed stays where it is refused.
+//! * A change that is answered `Ok` ran the statement of each row's table with the columns of the row, in one transaction. What that
+//!   made of the file is what is committed. A crash at any moment leaves what one before it could leave, or just that.
+//! * Before each of these statements the earlier row of the key was read, in the same transaction. It is what undoes the change; where
+//!   there was none, the deletion of the new row is.
+//! * After a refusal the connection is open and what was committed stays; or it is shut, and what undoes the change is owed.
+//! * A call over a shut connection goes on only after the file was opened anew and all that is owed was undone in one transaction, the
+//!   last change first. Where it can't be, it stays owed.
 //!
-//! What is not: what the file holds. No clause says that a row which was written is there again: a test shows it, and
-//! `docs/STORE.md` describes the file. What a column may hold beside its form, as a rate without a burst, is for the crates
-//! above to say.
+//! What is not: what a statement's text makes of the tables, since the compiler of SQL is not evaluated in a contract. That a row which
+//! was written is read again is shown by tests, and `docs/STORE.md` describes the file. What a column may hold beside its form, as a
+//! rate without a burst, is for the crates above to say.
 #![tactic(auto)]
 
+mod changes;
 mod database;
 mod fault;
 mod keeper;
+mod link;
 mod loading;
 mod reading;
+mod source;
 mod statements;
+mod undo;
 mod version;
 mod writing;
 
 pub use fault::StartFault;
 pub use keeper::SqliteKeeper;
+pub use source::StoreFile;
+pub use undo::Undo;

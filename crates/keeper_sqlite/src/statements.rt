@@ -1,4 +1,7 @@
-// The statements of the store: its schema, and of each table one that writes a row and one that reads the rows.
+// The statements of the store: its schema, and of each table those that write, read, find and delete rows.
+ghost use Rattle.std.specs.Prelude.{◌≡◌};
+ghost use Rattle.keeper_sqlite.specs.Texts.{upsert_text, rows_text, find_text, delete_text};
+
 use keeper_core::Table;
 
 /// The tables, in the order in which they are loaded.
@@ -74,7 +77,10 @@ INSERT INTO meta (id, version) VALUES (0, 1)";
 pub(crate) const ANY_TABLE: &str = "SELECT name FROM sqlite_schema LIMIT 1";
 
 /// Writes a row, new or in the place of the row of its key.
-pub(crate) fn upsert_into(table: Table) -> &'static str {
+#[tactic(auto, unfolding(crate::specs::Texts::upsert_text))]
+pub(crate) fn upsert_into(table: Table) -> &'static str
+    ensures { result.now ≡ upsert_text table }
+{
     match table {
         Table::Meta =>
             "INSERT INTO meta (id, version) VALUES (?1, ?2) ON CONFLICT (id) DO UPDATE SET version = excluded.version",
@@ -94,7 +100,10 @@ pub(crate) fn upsert_into(table: Table) -> &'static str {
 }
 
 /// Reads the rows in the order of their keys.
-pub(crate) fn rows_of(table: Table) -> &'static str {
+#[tactic(auto, unfolding(crate::specs::Texts::rows_text))]
+pub(crate) fn rows_of(table: Table) -> &'static str
+    ensures { result.now ≡ rows_text table }
+{
     match table {
         Table::Meta => "SELECT id, version FROM meta ORDER BY id",
         Table::Apis => "SELECT api, text, source FROM apis ORDER BY api",
@@ -107,5 +116,41 @@ pub(crate) fn rows_of(table: Table) -> &'static str {
             "SELECT plan, rate, burst, tversion, qlimit, qoffset, qkind, stages FROM plans ORDER BY plan",
         Table::Joins =>
             "SELECT plan, key, level, at, tversion, pkind, pnumber, allowance, used, first FROM joins ORDER BY plan, key",
+    }
+}
+
+/// Reads the row of a key.
+#[tactic(auto, unfolding(crate::specs::Texts::find_text))]
+pub(crate) fn find_in(table: Table) -> &'static str
+    ensures { result.now ≡ find_text table }
+{
+    match table {
+        Table::Meta => "SELECT id, version FROM meta WHERE id = ?1",
+        Table::Apis => "SELECT api, text, source FROM apis WHERE api = ?1",
+        Table::Deployments =>
+            "SELECT api, number, text, source FROM deployments WHERE api = ?1 AND number = ?2",
+        Table::Stages =>
+            "SELECT api, stage, deployment, vars, canary, share, canary_vars FROM stages WHERE api = ?1 AND stage = ?2",
+        Table::Keys => "SELECT key, value, enabled FROM keys WHERE key = ?1",
+        Table::Plans =>
+            "SELECT plan, rate, burst, tversion, qlimit, qoffset, qkind, stages FROM plans WHERE plan = ?1",
+        Table::Joins =>
+            "SELECT plan, key, level, at, tversion, pkind, pnumber, allowance, used, first FROM joins WHERE plan = ?1 AND key = ?2",
+    }
+}
+
+/// Deletes the row of a key.
+#[tactic(auto, unfolding(crate::specs::Texts::delete_text))]
+pub(crate) fn delete_from(table: Table) -> &'static str
+    ensures { result.now ≡ delete_text table }
+{
+    match table {
+        Table::Meta => "DELETE FROM meta WHERE id = ?1",
+        Table::Apis => "DELETE FROM apis WHERE api = ?1",
+        Table::Deployments => "DELETE FROM deployments WHERE api = ?1 AND number = ?2",
+        Table::Stages => "DELETE FROM stages WHERE api = ?1 AND stage = ?2",
+        Table::Keys => "DELETE FROM keys WHERE key = ?1",
+        Table::Plans => "DELETE FROM plans WHERE plan = ?1",
+        Table::Joins => "DELETE FROM joins WHERE plan = ?1 AND key = ?2",
     }
 }

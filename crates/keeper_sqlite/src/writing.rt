@@ -3,11 +3,12 @@ ghost use Rattle.std.specs.Prelude.{◌≡◌, ◌<◌, ◌^◌, true, map, nat_
 ghost use Rattle.std.specs.List.{list_all};
 ghost use Rattle.sqlite_value.specs.Value.{owned};
 ghost use Rattle.sqlite_value.specs.declared.value.Value.TheVariants.{Text as SqlText};
-ghost use Rattle.keeper_sqlite.specs.Columns.{columns, join_columns, can_be_written as can_be_written_of, number as number_of};
+ghost use Rattle.sqlite.specs.Values.{bound};
+ghost use Rattle.keeper_sqlite.specs.Columns.{columns, join_columns, key_values, key_width as key_width_of, can_be_written as can_be_written_of, number as number_of};
 ghost use Rattle.keeper_core.specs.declared.rows.Row.TheVariants.{Join as join};
 
 use gw_base::{Memory, Text};
-use keeper_core::{ApiRow, DeploymentRow, JoinRow, KeyRow, MetaRow, PlanRow, Row, StageRow};
+use keeper_core::{ApiRow, DeploymentRow, JoinRow, KeyRow, MetaRow, PlanRow, Row, StageRow, Table};
 use sqlite::types::ValueRef;
 use std::alloc::Global;
 
@@ -144,4 +145,21 @@ pub(crate) fn join_values(alloc: Global, row: &JoinRow) -> Result<Vec<ValueRef<'
             number(row.first),
         ],
     )?)
+}
+
+fn key_width(table: Table) -> usize
+    ensures { result ≡ key_width_of table }
+{
+    match table {
+        Table::Meta | Table::Apis | Table::Keys | Table::Plans => 1,
+        Table::Deployments | Table::Stages | Table::Joins => 2,
+    }
+}
+
+/// The values of the row's key, which are the first of its values.
+pub(crate) fn key_of<'a>(row: &Row, values: &'a [ValueRef<'a>]) -> &'a [ValueRef<'a>]
+    requires { map owned values.now ≡ columns row.now }
+    ensures { bound result.now ≡ key_values row.now }
+{
+    &values[..key_width(row.table())]
 }

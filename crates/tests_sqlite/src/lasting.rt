@@ -1,10 +1,11 @@
 // Rows that are kept, and there again for the next keeper.
-ghost use Rattle.std.specs.Prelude.{◌≡◌, [], IfOk};
+ghost use Rattle.std.specs.Prelude.{◌≡◌, [], IfOk, ⊤};
 
 use crate::rows::{Given, join, row, show};
 use gw_base::Memory;
 use keeper_core::{JoinRow, KeepFault, Keeper};
-use keeper_sqlite::{SqliteKeeper, StartFault};
+use keeper_sqlite::{SqliteKeeper, StartFault, StoreFile};
+use sqlite::{Connection, Error, File, FileStore};
 use std::alloc::Global;
 use std::fs;
 use std::test::Fail;
@@ -25,16 +26,49 @@ fn outcome(kept: Result<(), KeepFault>) -> Did {
     }
 }
 
-pub(crate) fn start(rt: &HostRuntime, path: &str) -> Result<SqliteKeeper, Memory>
+/// The file of a test, by its path.
+#[derive(Drop)]
+pub(crate) struct TestFile {
+    rt: HostRuntime,
+    path: String,
+}
+
+impl StoreFile for TestFile {
+    type Conn = Connection<FileStore<File>>;
+
+    ghost is_fresh = { λ conn. ⊤ };
+
+    fn open(&mut self) -> Result<Connection<FileStore<File>>, Error> {
+        Connection::open(&self.rt, self.path.as_str())
+    }
+
+    fn close(&mut self, conn: Connection<FileStore<File>>) {
+        let _ = conn.close();
+    }
+}
+
+pub(crate) type FileKeeper = SqliteKeeper<FileStore<File>, TestFile>;
+
+fn open(rt: &HostRuntime, path: &str) -> Result<FileKeeper, StartFault>
     ensures { IfOk result (λ keeper. keeper.staged ≡ []) }
 {
-    match SqliteKeeper::start(rt, path) {
+    let alloc = rt.alloc();
+    match String::from_str(alloc, path) {
+        Ok(path) => SqliteKeeper::start(alloc, TestFile { rt: *rt, path }),
+        Err(_) => Err(StartFault::Memory),
+    }
+}
+
+pub(crate) fn start(rt: &HostRuntime, path: &str) -> Result<FileKeeper, Memory>
+    ensures { IfOk result (λ keeper. keeper.staged ≡ []) }
+{
+    match open(rt, path) {
         Ok(keeper) => Ok(keeper),
         Err(_) => Err(Memory),
     }
 }
 
-fn stage_all(keeper: &mut SqliteKeeper, alloc: Global, given: &[Given]) -> Result<(), KeepFault> {
+fn stage_all(keeper: &mut FileKeeper, alloc: Global, given: &[Given]) -> Result<(), KeepFault> {
     for given in given {
         keeper.put_row(alloc, &row(alloc, *given)?)?;
     }
@@ -42,7 +76,7 @@ fn stage_all(keeper: &mut SqliteKeeper, alloc: Global, given: &[Given]) -> Resul
 }
 
 /// Stages the rows, and commits whatever is staged then.
-pub(crate) fn commit(keeper: &mut SqliteKeeper, alloc: Global, given: &[Given]) -> Did
+pub(crate) fn commit(keeper: &mut FileKeeper, alloc: Global, given: &[Given]) -> Did
     ensures { keeper.new.staged ≡ [] }
 {
     let staged = stage_all(keeper, alloc, given);
@@ -54,7 +88,7 @@ pub(crate) fn commit(keeper: &mut SqliteKeeper, alloc: Global, given: &[Given]) 
     }
 }
 
-fn rewrite(keeper: &mut SqliteKeeper, alloc: Global, row: Result<JoinRow, Memory>) -> Did
+fn rewrite(keeper: &mut FileKeeper, alloc: Global, row: Result<JoinRow, Memory>) -> Did
     requires { keeper.old.staged ≡ [] }
 {
     match row {
@@ -64,7 +98,7 @@ fn rewrite(keeper: &mut SqliteKeeper, alloc: Global, row: Result<JoinRow, Memory
 }
 
 /// The tables that the keeper loads, or why it loads none.
-pub(crate) fn loaded(keeper: &mut SqliteKeeper, alloc: Global) -> Result<String, Memory> {
+pub(crate) fn loaded(keeper: &mut FileKeeper, alloc: Global) -> Result<String, Memory> {
     match keeper.load(alloc) {
         Ok(tables) => show(alloc, &tables),
         Err(fault) => Ok(format!(in alloc; "{fault:?}")?),
@@ -73,7 +107,7 @@ pub(crate) fn loaded(keeper: &mut SqliteKeeper, alloc: Global) -> Result<String,
 
 /// What the next keeper of this file loads, or why it does not start.
 pub(crate) fn found(rt: &HostRuntime, path: &str) -> Result<String, Memory> {
-    match SqliteKeeper::start(rt, path) {
+    match open(rt, path) {
         Ok(mut keeper) => loaded(&mut keeper, rt.alloc()),
         Err(StartFault::Memory) => Err(Memory),
         Err(fault) => Ok(format!(in rt.alloc(); "{fault:?}")?),

@@ -22,7 +22,7 @@
 //! What is promised: each call is just what `specs/Tallies.antt` says of the row, the terms and the moment, and takes no memory. [`laws`]
 //! say of every row and of all that ever befell it that the level is the least over all windows of admissions, that the counts are those
 //! of what was charged to the period, that none is overused, and that each refusal comes exactly by these. [`terms_of`], [`tally_of`] and
-//! [`write_tally`] read and write the columns of the tables' rows.
+//! [`numbers_of`] read and make the columns of the tables' rows.
 //!
 //! Left out: who may call, which is a matter of keys and stages; and where the rows stand.
 #![tactic(auto)]
@@ -32,7 +32,7 @@ mod rows;
 mod tally;
 mod terms;
 
-pub use rows::{tally_of, terms_of, write_tally};
+pub use rows::{numbers_of, tally_of, terms_of};
 pub use tally::{Admission, GrantRefusal, Tally};
 pub use terms::{MOST_UNITS, Terms};
 pub use usage_meter::{Allowance, Bucket, Period, PeriodKind, Quota, Throttle, YEAR_2100};

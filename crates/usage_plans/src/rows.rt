@@ -1,11 +1,13 @@
 // The numbers of the tables' rows.
 ghost use Rattle.std.specs.Prelude.{◌≡◌, ◌<◌};
+ghost use Rattle.keeper_core.specs.Joins.{with_numbers};
+ghost use Rattle.keeper_core.specs.declared.rows.JoinRow.{JoinRow as JoinRowOf};
 ghost use Rattle.usage_plans.specs.Rows.{IsPlanRow, kind_column, kind_in, number_column, row_with, tally_in, terms_in};
 ghost use Rattle.usage_plans.specs.Terms.{IsTerms};
 
 use crate::tally::Tally;
 use crate::terms::Terms;
-use keeper_core::{JoinRow, PlanRow};
+use keeper_core::{JoinNumbers, JoinRow, PlanRow};
 use usage_meter::{Allowance, Bucket, Period, PeriodKind, Quota, Throttle};
 
 // The kind of a period's column.
@@ -91,17 +93,19 @@ pub fn tally_of(row: &JoinRow) -> Tally
     }
 }
 
-/// Writes the numbers of a tally into the row. It takes no memory.
-pub fn write_tally(row: &mut JoinRow, tally: Tally)
-    ensures { row.new ≡ row_with row.old tally }
+/// The numbers of a tally, as the columns of its join's row.
+pub fn numbers_of(tally: Tally) -> JoinNumbers
+    ensures { (row : JoinRowOf) → with_numbers row result ≡ row_with row tally }
 {
     let (kind, number) = columns_of(tally.allowance.period);
-    row.level = tally.bucket.level;
-    row.at = tally.bucket.at;
-    row.tversion = tally.version;
-    row.pkind = kind;
-    row.pnumber = number;
-    row.allowance = tally.allowance.allowance;
-    row.used = tally.allowance.used;
-    row.first = u64::from(tally.allowance.first);
+    JoinNumbers {
+        level: tally.bucket.level,
+        at: tally.bucket.at,
+        tversion: tally.version,
+        pkind: kind,
+        pnumber: number,
+        allowance: tally.allowance.allowance,
+        used: tally.allowance.used,
+        first: u64::from(tally.allowance.first),
+    }
 }

@@ -1,6 +1,7 @@
 // What stands in the tables: slices of rows, rows by their keys, and places.
-ghost use Rattle.std.specs.Prelude.{◌≡◌};
+ghost use Rattle.std.specs.Prelude.{◌≡◌, ◌<◌, length, IfSome, IsSome, option_map};
 ghost use Rattle.std.specs.Option.{option_copied};
+ghost use Rattle.keeper_core.specs.Joins.{join_at as join_at_of};
 ghost use Rattle.keeper_core.specs.Lists.{api_row, deployment_row, stage_row, key_row, plan_row, join_row, is_api, is_deployment, is_stage, Ascends, meta_behind, api_behind, deployment_behind, stage_behind, key_behind, plan_behind, join_behind};
 ghost use Rattle.keeper_core.specs.Places.{IsPlace, IsPlaceOf};
 
@@ -112,6 +113,26 @@ impl Tables {
         ensures { option_copied result ≡ join_row self.now.lists plan.now key.now }
     {
         row_at(&self.joins, place_of_join(&self.joins, plan, key))
+    }
+
+    /// The place of a key that joined a plan, counted from 0 in the order of the keys; none where it did not join.
+    pub fn find_join(&self, plan: &str, key: &str) -> Option<usize>
+        ensures inside { IfSome result (λ at. at < length self.now.lists.joins) }
+        ensures row { join_row self.now.lists plan.now key.now ≡ option_map (join_at_of self.now.lists) result }
+    {
+        match place_of_join(&self.joins, plan, key) {
+            Place::At(at) => Some(at),
+            Place::Before(_) => None,
+        }
+    }
+
+    /// The join at this place, counted from 0 in the order of the keys.
+    pub fn join_at(&self, at: usize) -> &JoinRow
+        requires { at < length self.now.lists.joins }
+        ensures row { result.now ≡ join_at_of self.now.lists at }
+        ensures there { IsSome (join_row self.now.lists result.now.plan result.now.key) }
+    {
+        &self.joins[at]
     }
 
     /// The place of a row's key in its table.

@@ -1,7 +1,8 @@
-use Rattle.std.proofs.Common.{rules, ◌≡◌, ◌+◌, true, OnOk, OnErr, subst, sym}
+use Rattle.std.proofs.Common.{rules, ◌≡◌, ◌+◌, true, not, ◌&&◌, OnOk, OnErr, subst, sym}
 use Rattle.policy_memory.specs.Kept.{Remembers}
 use Rattle.book_rules.specs.Commands.{commanded}
-use Rattle.book_rules.specs.Machine.{happened_by, is_flush, takes_memory, wants_memory}
+use Rattle.book_rules.specs.History.{rewrites_by, wants_memory}
+use Rattle.book_rules.specs.Machine.{happened_by, is_flush, takes_memory}
 use Rattle.book_rules.specs.declared.events.Event.TheVariants.{Admin}
 use Rattle.book_core.specs.Standing.{standing}
 use Rattle.book_core.proofs.Remembering.{always, on_err, or_first, remembers_next, unflushed}
@@ -28,6 +29,6 @@ returns-in_default g c =
       unchanged = search rules;
       stays = e.stays;
       memory = λ moment.
-          on_err c.command.result (takes_memory outcome ≡ true) (wants_memory (Admin moment asked) outcome ≡ true)
-          (λ t. or_first (takes_memory outcome) (is_flush (Admin moment asked)) t) e.memory;
+          on_err c.command.result ((takes_memory outcome && not (g.K.Keeper.IN_PLACE && rewrites_by asked)) ≡ true) (wants_memory g.K.Keeper.IN_PLACE (Admin moment asked) outcome ≡ true)
+          (λ t. or_first (takes_memory outcome && not (g.K.Keeper.IN_PLACE && rewrites_by asked)) (is_flush (Admin moment asked)) t) e.memory;
     }

@@ -1,7 +1,7 @@
 use Rattle.std.proofs.Common.{[], subst, sym}
 use Rattle.book_rules.specs.Fits.{AreFit}
 use Rattle.book_core.specs.Standing.{standing}
-use Rattle.book_core.proofs.FitsAfter.{fits_at}
+use Rattle.fit_rows.proofs.FitsAfter.{fits_at}
 use Rattle.book_core.proofs.current.time.Goals as goal
 
 pub returns-clause-fits : goal.returns-clause-fits

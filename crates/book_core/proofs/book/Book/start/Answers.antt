@@ -6,7 +6,7 @@ use Rattle.book_opening.specs.Ready.{AreReady}
 use Rattle.book_rules.specs.Fits.{AreFit}
 use Rattle.book_core.specs.Books.{counts_of}
 use Rattle.book_core.proofs.Counted.{counts_of-none}
-use Rattle.book_core.proofs.Fitting.{opens_fit}
+use Rattle.fit_rows.proofs.Fitting.{opens_fit}
 use Rattle.book_core.specs.Starts.{StartFails, FailsAt, is_store_fault}
 use Rattle.book_core.proofs.Starting.{by_load, fails_by, keeps_first, remembers_first, stands_first, stands_happened}
 use Rattle.book_core.specs.Standing.{standing}

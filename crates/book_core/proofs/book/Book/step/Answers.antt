@@ -14,7 +14,7 @@ use Rattle.gw_base.specs.Outside.{Rose}
 use Rattle.policy_memory.specs.Kept.{Remembers}
 use Rattle.book_core.specs.Books.{Keeps, counted_with, counts_of, happened_after, replied}
 use Rattle.book_core.proofs.Counted.{AreFew, counts_at, counts_of-more, few_of}
-use Rattle.book_core.proofs.FitsAfter.{fits_after}
+use Rattle.fit_rows.proofs.FitsAfter.{fits_after}
 use Rattle.book_core.specs.Keeps.{Went}
 use Rattle.book_core.specs.Standing.{standing}
 use Rattle.book_core.proofs.Stepping.{keeps_more, answers_at, remembers_more}

@@ -1,0 +1,2 @@
+-- what holds of every history
+pub mod Laws

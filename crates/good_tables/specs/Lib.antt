@@ -1,0 +1,2 @@
+-- good tables stay good
+pub mod Laws

@@ -111,6 +111,21 @@ def a_column_that_is_overwritten_is_there_again(program):
             client.calls("a call", request(b"GET", b"/hail/v2"), text_answer(b"You, Ann"))
 
 
+def a_new_store_has_the_schema_of_the_theorem(program):
+    """The theorem that a written row is read back (crates/kept_rows) is over the schema of a new store: its texts, and the order in which its tables and
+    their indexes are made."""
+    with open(f"{TOP}/crates/kept_rows/specs/Store.antt", encoding="utf-8") as file:
+        spec = file.read()
+    texts = re.findall(r'^table_text \w+ = codes "(.*)"$', spec, re.MULTILINE)
+    trees = re.findall(r'^table_in \w+ = table \(codes "(\w+)"\) (\d+) ', spec, re.MULTILINE) + re.findall(r'index \(codes "(\w+)"\) (\d+) ', spec)
+    with a_shop(program) as shop:
+        shop.shut_down()
+        with contextlib.closing(sqlite3.connect(shop.path)) as store:
+            found = store.execute("SELECT rowid, name, sql FROM sqlite_schema ORDER BY rowid").fetchall()
+    expect("the texts of the tables", [re.sub(r"\( | (?=\))", lambda it: it[0].strip(), " ".join(sql.split())) for _, _, sql in found if sql], texts)
+    expect("the trees", [(name, number - 1) for number, name, _ in found], sorted(((name, int(tree)) for name, tree in trees), key=lambda it: it[1]))
+
+
 # Stores that are moved, replaced or copied, as docs/STORE.md says.
 
 USED = re.compile(rb"usage period=MONTH:\d+ allowance=\d+ used=(\d+) remaining=\d+\n")
@@ -286,6 +301,7 @@ def a_moment_of_the_far_future_is_repaired_by_the_line_of_the_pages(program):
 
 
 TESTS = [
+    a_new_store_has_the_schema_of_the_theorem,
     a_column_that_is_overwritten_is_there_again,
     a_store_that_is_moved_while_it_is_served_goes_with_its_program,
     a_store_that_is_removed_or_replaced_while_it_is_served_is_lost,

@@ -1,5 +1,7 @@
 -- How a book starts.
 use Rattle.std.proofs.Common.{◌≡◌, ◌⊎◌, inl, ℕ, ◌+◌, ◌-◌, ◌^◌, ◌≤◌, min, Bool, true, false, List, [], length, Option, Some, None, Result, Ok, Err, IfSome, ap, sym, ◌∙◌, refl, subst, arith}
+use Rattle.std.specs.Prelude.{is_some}
+use Rattle.std.specs.List.{AllByRecursion}
 use Rattle.std.specs.Option.{option_map}
 use Rattle.keeper_core.specs.Lists.{Lists}
 use Rattle.keeper_core.specs.Held.{Held}
@@ -13,6 +15,7 @@ use Rattle.book_rules.proofs.Histories.{state_after-nil, plan_after-nil}
 use Rattle.book_rules.specs.History.{Base, state_after, tables_after, plan_after, not_kept}
 use Rattle.book_rules.specs.Machine.{opened}
 use Rattle.book_rules.specs.declared.events.Entry.{Entry}
+use Rattle.good_tables.specs.Laws.{is_stated_in}
 use Rattle.book_core.specs.Books.{Keeps, happened_after}
 use Rattle.book_core.specs.Starts.{StartFails, IsNamed, FailsAt, is_store_fault, fault_of}
 
@@ -54,6 +57,7 @@ keeps_none : (base : Base) (now : KeeperFacts) → base.start ≡ now → now.st
 keeps_none base now same staged loaded =
     record {
       told = told_first base.opening now.tables loaded;
+      tells = sym (ap (λ (k : KeeperFacts). is_some k.tables) same);
       staged = staged;
       counted = subst (λ k. min (base.start.faults + 0) (2 ^ 64 - 1) ≤ k.faults) same (omega arith);
       planned = subst (λ k. k.planned ≡ option_map (λ plan. plan_after base.opening plan []) base.start.planned) same (planned_first base.opening base.start.planned);
@@ -76,3 +80,6 @@ stands_happened opening entries none = ap (λ s. s.happened) (sym (state_after-n
 
 pub stands_first : (opening : Lists) (entries : List Entry) → entries ≡ [] → opened opening ≡ state_after opening entries
 stands_first opening entries none = sym (state_after-nil opening) ∙ ap (state_after opening) (sym none)
+
+pub stated_first : (entries : List Entry) → entries ≡ [] → AllByRecursion (λ (entry : Entry). is_stated_in entry.event ≡ true) entries
+stated_first entries none = subst (AllByRecursion (λ (entry : Entry). is_stated_in entry.event ≡ true)) (sym none) tt

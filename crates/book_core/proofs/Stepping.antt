@@ -1,6 +1,7 @@
 -- What a step leaves.
 use Rattle.std.proofs.Common.{◌≡◌, ℕ, ◌+◌, ◌-◌, ◌^◌, ◌≤◌, min, Bool, true, false, List, [], ◌∷◌, ◌++◌, length, length-append, cond, Option, Some, None, IfSome, ap, sym, ◌∙◌, refl, subst, arith}
 use Rattle.std.specs.Prelude.{sum_by, is_some}
+use Rattle.std.specs.List.{AllByRecursion}
 use Rattle.std.specs.Option.{option_map}
 use Rattle.std.proofs.lemmas.List.Sums.{sum_by-append}
 use Rattle.std.proofs.lemmas.Grind.{common_steps}
@@ -14,6 +15,7 @@ use Rattle.book_rules.specs.History.{Base, Answers, IsAsPlanned, state_after, ta
 use Rattle.book_rules.specs.Times.{IsInTime}
 use Rattle.book_rules.specs.declared.events.Entry.{Entry}
 use Rattle.book_rules.specs.declared.replies.Reply.{Reply}
+use Rattle.good_tables.specs.Laws.{is_stated_in}
 use Rattle.book_core.specs.Books.{Keeps, happened_after}
 use Rattle.book_core.specs.Keeps.{Went, WentAsPlanned}
 
@@ -25,6 +27,10 @@ told_more opening history entry None now same e = subst (λ t. IfSome t (λ list
 told_more opening history entry (Some lists) now same e =
     subst (λ t. IfSome t (λ lists. lists ≡ tables_after opening (history ++ entry ∷ []))) (sym e)
     (ap (put_kept (row_of (state_after opening history) entry.event) entry.kept) same ∙ sym (ap (λ s. s.lists) (state_after-more opening history entry)))
+
+tells_more : (change : Lists → Lists) (before now : Option Lists) → now ≡ option_map change before → is_some now ≡ is_some before
+tells_more change None now e = ap is_some e
+tells_more change (Some lists) now e = ap is_some e
 
 planned_more : (opening : Lists) (history : List Entry) (entry : Entry) (start before now : Option Planned)
     → before ≡ option_map (λ plan. plan_after opening plan history) start
@@ -46,6 +52,7 @@ pub keeps_more : (base : Base) (history : List Entry) (entry : Entry) (before no
     → Keeps base history before → Went (rewrites entry.event) (row_of (state_after base.opening history) entry.event) entry.kept before now → Keeps base (history ++ entry ∷ []) now
 keeps_more base history entry before now h went =
     record {
+      tells = tells_more (put_kept (row_of (state_after base.opening history) entry.event) entry.kept) before.tables now.tables went.tables ∙ h.tells;
       told = told_more base.opening history entry before.tables now.tables h.told went.tables;
       staged = went.staged;
       counted = subst (λ n. min (base.start.faults + n) (2 ^ 64 - 1) ≤ now.faults) (sym (not_kept-more history entry))
@@ -80,3 +87,12 @@ remembers_more opening history entry items policies same r =
     subst (λ h. Remembers (happened_after opening h) (length h) policies) (sym same)
     (subst (λ n. Remembers (happened_after opening (history ++ entry ∷ [])) n policies) (sym (length-append history (entry ∷ [])))
     (subst (λ s. Remembers s.happened (length history + 1) policies) (sym (state_after-more opening history entry)) r))
+
+-- and so each definition of the history is stated
+pub stated_more : (history : List Entry) (entry : Entry) (items : List Entry) → items ≡ history ++ entry ∷ [] → AllByRecursion (λ (e : Entry). is_stated_in e.event ≡ true) history
+    → is_stated_in entry.event ≡ true → AllByRecursion (λ (e : Entry). is_stated_in e.event ≡ true) items
+stated_more history entry items same all one = subst (AllByRecursion (λ (e : Entry). is_stated_in e.event ≡ true)) (sym same) (joined history all)
+  where
+    joined : (es : List Entry) → AllByRecursion (λ (e : Entry). is_stated_in e.event ≡ true) es → AllByRecursion (λ (e : Entry). is_stated_in e.event ≡ true) (es ++ entry ∷ [])
+    joined [] all = (one, tt)
+    joined (e ∷ es) all = (all.0, joined es all.1)

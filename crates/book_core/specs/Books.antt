@@ -1,7 +1,8 @@
 -- What is always true of a book.
 use Rattle.std.specs.Prelude.{◌≡◌, ℕ, ◌+◌, ◌-◌, ◌^◌, ◌≤◌, min, Bool, true, false, List, [], ◌∷◌, length, reverse, Option, Some, None, IfSome, is_some, if◌then◌else◌}
+use Rattle.std.specs.List.{AllByRecursion}
 use Rattle.std.specs.Option.{option_map}
-use Rattle.keeper_core.specs.Lists.{Lists}
+use Rattle.keeper_core.specs.Lists.{AreInOrder, Lists}
 use Rattle.keeper_core.specs.Keeping.{KeeperFacts}
 use Rattle.book_rules.specs.Fits.{AreFit}
 use Rattle.book_rules.specs.Good.{bad_row}
@@ -18,15 +19,18 @@ use Rattle.book_core.specs.declared.book.StepFault.{StepFault}
 use Rattle.book_core.specs.declared.book.StepFault.TheVariants.{SessionFull, Memory}
 use Rattle.book_rules.specs.declared.events.Limits.{Limits}
 use Rattle.book_opening.specs.Ready.{AreReady}
+use Rattle.good_tables.specs.Laws.{is_stated_in}
 use Rattle.policy_memory.specs.Kept.{Remembers}
 use Rattle.policy_memory.specs.Remembered.{Happening}
 use Rattle.book_core.specs.Standing.{standing}
 use Rattle.book_core.specs.declared.current.Current.{Current}
 
--- a keeper after a history: its tables, where it tells them, are the history's; nothing is staged; it counted a fault for each entry
--- that is not kept; and where it tells which of its calls fail, so many were made as the history's changes make
+-- a keeper after a history: its tables, where it tells them, are the history's, and it tells them where it did at the start; nothing is
+-- staged; it counted a fault for each entry that is not kept; and where it tells which of its calls fail, so many were made as the
+-- history's changes make
 pub record Keeps (base : Base) (history : List Entry) (keeper : KeeperFacts) : Type 0 where
   pub told : IfSome keeper.tables (λ lists. lists ≡ tables_after base.opening history)
+  pub tells : is_some keeper.tables ≡ is_some base.start.tables
   pub staged : keeper.staged ≡ []
   pub counted : min (base.start.faults + not_kept history) (2 ^ 64 - 1) ≤ keeper.faults
   pub planned : keeper.planned ≡ option_map (λ plan. plan_after base.opening plan history) base.start.planned
@@ -91,10 +95,13 @@ counts_of opening history = counts_by opening (reverse history)
 abbrev pub happened_after : Lists → List Entry → List Happening
 happened_after opening history = (state_after opening history).happened
 
--- the tables that a book opened with are good, and those that stand are the history's, with what they hold ready and rows that may stand;
--- the policies are remembered that were learned in the history; it is within its limits, with room for all of it, and counted
+-- the tables that a book opened with are good and in order, and those that stand are the history's, with what they hold ready and rows that
+-- may stand; each definition that the history puts is stated; the policies are remembered that were learned in the history; it is within its
+-- limits, with room for all of it, and counted
 pub record IsBook (base : Base) (history : List Entry) (keeper : KeeperFacts) (current : Current) (room bytes : ℕ) (counts : Counts) : Type 0 where
   pub good : bad_row base.opening ≡ None
+  pub order : AreInOrder base.opening
+  pub stated : AllByRecursion (λ (entry : Entry). is_stated_in entry.event ≡ true) history
   pub stands : standing (happened_after base.opening history) current ≡ state_after base.opening history
   pub remembers : Remembers (happened_after base.opening history) (length history) current.policies
   pub ready : AreReady current.tables.lists current.ready

@@ -10,7 +10,9 @@ ghost use Rattle.book_core.specs.Books.{Keeps, counts_of};
 use crate::counts::Counts;
 use crate::current::{Current, take};
 use crate::sizes::size;
+use crate::stated::check_stated;
 use book_rules::{Entry, Event, Limits, Reply};
+use good_tables::laws::good_tables_stay_good;
 use keeper_core::{Keeper, Tables};
 use std::alloc::Global;
 use std::marker::Model;
@@ -99,6 +101,7 @@ impl<K: Keeper> Book<K> {
                 bytes: self.bytes,
             });
         }
+        check_stated(&event);
         let taken = take(
             &mut self.current,
             &mut self.keeper,
@@ -155,8 +158,12 @@ impl<K: Keeper> Book<K> {
         ensures keeper { result.0 ≡ self.keeper }
         ensures keeps { Keeps self.base self.history (K.facts result.0) }
         ensures tables { result.1.lists ≡ tables_after self.base.opening self.history }
+
+        // Another book may start from the tables: none of their rows is bad.
+        ensures good { bad_row (tables_after self.base.opening self.history) ≡ None }
         ensures history { result.2.items ≡ self.history }
     {
+        good_tables_stay_good();
         let Book {
             keeper,
             started: _,

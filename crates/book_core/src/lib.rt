@@ -21,7 +21,7 @@
 //! What the contracts promise, over every keeper: each entry and its reply are what the rules say after the history before
 //! (`Answers` of `book_rules`); only a change is not kept, and, where the keeper tells which of its calls fail, exactly where one of
 //! its calls is among these. `SessionFull` comes exactly by the numbers of the history. A book that is given back has tables that are
-//! those of its history, and so has the keeper where it tells them; nothing is staged there; the entries that are not kept are at most
+//! those of its history, without a bad row, so that another book may start from them, and so has the keeper where it tells them; nothing is staged there; the entries that are not kept are at most
 //! the faults that the keeper counted (`Keeps` of `specs/Books.antt`). So a [`Book`] is a [`turn_desk::Machine`], with no clause of its own.
 //! As a law, [`laws::what_goes_through_a_book_may_cross_threads`]; and `proofs/Sent.antt` has that a book may, where its keeper may.
 //!
@@ -49,6 +49,7 @@ mod prepare;
 mod sizes;
 mod stage_changes;
 mod start;
+mod stated;
 
 pub use base::Base;
 pub use book::{Book, StepFault};

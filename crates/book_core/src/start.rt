@@ -79,6 +79,7 @@ impl<K: Keeper> Book<K> {
             }
             Err(OpenFault::Memory) => return Err((keeper, StartFault::Memory)),
         };
+        opening.are_in_order();
         match stand(alloc, &opening, ready, limits) {
             Ok((current, history)) => {
                 let started = Snapshot::of(&keeper);

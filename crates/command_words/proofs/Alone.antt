@@ -4,9 +4,9 @@ use Rattle.std.specs.Option.{option_and_then, option_map, option_or, option_zip}
 use Rattle.std.proofs.lemmas.Bool.{and_parts}
 use Rattle.std.proofs.lemmas.Slice.Eq.{bytes_eq-Decides}
 use Rattle.record_fields.specs.Numbers.{number_of}
-use Rattle.command_words.specs.Commands.{CommandsHaveTheirWords, IsAskedBy, IsWithin, admin_store, asked_of, check_name, command_of, in_range, is_argument, is_play, load_asked, load_of, number_to, play_of, render_names, render_of, serve_asked, serve_of}
+use Rattle.command_words.specs.Commands.{CommandsHaveTheirWords, IsAskedBy, IsWithin, admin_store, about_of, asked_of, check_name, command_of, other_of, in_range, is_argument, is_help, is_play, is_version, load_asked, load_of, number_to, if_asked, render_names, render_of, serve_asked, serve_of}
 use Rattle.command_words.specs.declared.commands.Command.{Command}
-use Rattle.command_words.specs.declared.commands.Command.TheVariants.{Play, Render, Check, Serve, Admin, Load}
+use Rattle.command_words.specs.declared.commands.Command.TheVariants.{Help, Version, Play, Render, Check, Serve, Admin, Load}
 
 some_same : {X : Type 0} {x y : X} → Some x ≡ Some y → x ≡ y
 some_same e = cc
@@ -22,12 +22,12 @@ asked_load : (words : List (List ℕ)) (command : Command) (o : Option (ℕ × �
 asked_load words command None e f = absurd cc
 asked_load words command (Some (seed, calls)) e f = subst (IsAskedBy words) (some_same f) e
 
-asked : (words : List (List ℕ)) (command : Command) → command_of words ≡ Some command → IsAskedBy words command
-unfolding command_of
+asked : (words : List (List ℕ)) (command : Command) → other_of words ≡ Some command → IsAskedBy words command
+unfolding other_of
 asked [] command e = absurd cc
 asked (name ∷ []) command e = by (bytes_eq name (codes "play")) refl e
   where
-    by : (v : Bool) → bytes_eq name (codes "play") ≡ v → option_or (play_of v) None ≡ Some command → IsAskedBy (name ∷ []) command
+    by : (v : Bool) → bytes_eq name (codes "play") ≡ v → option_or (if_asked Play v) None ≡ Some command → IsAskedBy (name ∷ []) command
     by true is f = subst (IsAskedBy (name ∷ [])) (some_same f) is
     by false is f = absurd cc
 asked (name ∷ only ∷ []) command e = by (bytes_eq name (codes "check")) refl (bytes_eq name (codes "admin")) refl (is_argument only) refl e
@@ -62,29 +62,29 @@ apart name one other differ = by (bytes_eq name one) refl
     by false e = refl
 
 -- and are asked for by them
-play_asks : (words : List (List ℕ)) → is_play words ≡ true → command_of words ≡ Some Play
-unfolding command_of
+play_asks : (words : List (List ℕ)) → is_play words ≡ true → other_of words ≡ Some Play
+unfolding other_of
 play_asks [] e = absurd cc
 play_asks (name ∷ []) e = rw e refl
 play_asks (name ∷ other ∷ words) e = absurd cc
 
-render_asks : (words : List (List ℕ)) (template body : List ℕ) → render_names words ≡ Some (template, body) → command_of words ≡ Some (Render template body)
-unfolding command_of
+render_asks : (words : List (List ℕ)) (template body : List ℕ) → render_names words ≡ Some (template, body) → other_of words ≡ Some (Render template body)
+unfolding other_of
 render_asks [] template body e = absurd cc
 render_asks (name ∷ []) template body e = absurd cc
 render_asks (name ∷ a ∷ []) template body e = absurd cc
 render_asks (name ∷ a ∷ b ∷ []) template body e = ap (λ o. option_or (option_map render_of o) (option_map load_of (load_asked (name ∷ a ∷ b ∷ [])))) e
 render_asks (name ∷ a ∷ b ∷ other ∷ words) template body e = absurd cc
 
-check_asks : (words : List (List ℕ)) (file : List ℕ) → check_name words ≡ Some file → command_of words ≡ Some (Check file)
-unfolding command_of
+check_asks : (words : List (List ℕ)) (file : List ℕ) → check_name words ≡ Some file → other_of words ≡ Some (Check file)
+unfolding other_of
 check_asks [] file e = absurd cc
 check_asks (name ∷ []) file e = absurd cc
 check_asks (name ∷ a ∷ []) file e = ap (λ o. option_or (option_map Check o) (option_or (option_map Admin (admin_store (name ∷ a ∷ []))) None)) e
 check_asks (name ∷ a ∷ other ∷ words) file e = absurd cc
 
-serve_asks : (words : List (List ℕ)) (store : List ℕ) (port lanes : ℕ) → serve_asked words ≡ Some (store, port, lanes) → command_of words ≡ Some (Serve store port lanes)
-unfolding command_of
+serve_asks : (words : List (List ℕ)) (store : List ℕ) (port lanes : ℕ) → serve_asked words ≡ Some (store, port, lanes) → other_of words ≡ Some (Serve store port lanes)
+unfolding other_of
 serve_asks [] store port lanes e = absurd cc
 serve_asks (name ∷ []) store port lanes e = absurd cc
 serve_asks (name ∷ a ∷ []) store port lanes e = absurd cc
@@ -92,8 +92,8 @@ serve_asks (name ∷ a ∷ b ∷ []) store port lanes e = absurd cc
 serve_asks (name ∷ a ∷ b ∷ c ∷ []) store port lanes e = ap (λ o. option_or (option_map serve_of o) None) e
 serve_asks (name ∷ a ∷ b ∷ c ∷ other ∷ words) store port lanes e = absurd cc
 
-admin_asks : (words : List (List ℕ)) (store : List ℕ) → admin_store words ≡ Some store → command_of words ≡ Some (Admin store)
-unfolding command_of
+admin_asks : (words : List (List ℕ)) (store : List ℕ) → admin_store words ≡ Some store → other_of words ≡ Some (Admin store)
+unfolding other_of
 admin_asks [] store e = absurd cc
 admin_asks (name ∷ []) store e = absurd cc
 admin_asks (name ∷ a ∷ []) store e = by (bytes_eq name (codes "check")) (bytes_eq name (codes "admin")) (is_argument a) (apart name (codes "check") (codes "admin") refl) e
@@ -105,8 +105,8 @@ admin_asks (name ∷ a ∷ []) store e = by (bytes_eq name (codes "check")) (byt
     by false w x n f = ap (λ o. option_or (option_map Admin o) None) f
 admin_asks (name ∷ a ∷ other ∷ words) store e = absurd cc
 
-load_asks : (words : List (List ℕ)) (seed calls : ℕ) → load_asked words ≡ Some (seed, calls) → command_of words ≡ Some (Load seed calls)
-unfolding command_of
+load_asks : (words : List (List ℕ)) (seed calls : ℕ) → load_asked words ≡ Some (seed, calls) → other_of words ≡ Some (Load seed calls)
+unfolding other_of
 load_asks [] seed calls e = absurd cc
 load_asks (name ∷ []) seed calls e = absurd cc
 load_asks (name ∷ a ∷ []) seed calls e = absurd cc
@@ -121,16 +121,62 @@ load_asks (name ∷ a ∷ b ∷ []) seed calls e =
     by false w n f = ap (option_map load_of) f
 load_asks (name ∷ a ∷ b ∷ other ∷ words) seed calls e = absurd cc
 
+-- such words ask neither for help nor for the version
+behind_about : (words : List (List ℕ)) (command : Command) → other_of words ≡ Some command → command_of words ≡ Some command
+unfolding command_of other_of
+behind_about [] command e = absurd cc
+behind_about (name ∷ []) command e =
+    by (bytes_eq name (codes "play")) (bytes_eq name (codes "help")) (bytes_eq name (codes "version")) (apart name (codes "play") (codes "help") refl) (apart name (codes "play") (codes "version") refl) e
+  where
+    by : (v w x : Bool) → (v && w) ≡ false → (v && x) ≡ false → option_or (if_asked Play v) None ≡ Some command
+        → option_or (option_or (if_asked Help w) (if_asked Version x)) (option_or (if_asked Play v) None) ≡ Some command
+    by true true x n m f = absurd cc
+    by true false true n m f = absurd cc
+    by true false false n m f = f
+    by false w x n m f = absurd cc
+behind_about (name ∷ other ∷ words) command e = e
+
+help_asks : (words : List (List ℕ)) → is_help words ≡ true → command_of words ≡ Some Help
+unfolding command_of
+help_asks [] e = absurd cc
+help_asks (name ∷ []) e = rw e refl
+help_asks (name ∷ other ∷ words) e = absurd cc
+
+version_asks : (words : List (List ℕ)) → is_version words ≡ true → command_of words ≡ Some Version
+unfolding command_of
+version_asks [] e = absurd cc
+version_asks (name ∷ []) e = by (bytes_eq name (codes "version")) (bytes_eq name (codes "help")) (apart name (codes "version") (codes "help") refl) e
+  where
+    by : (v w : Bool) → (v && w) ≡ false → v ≡ true → option_or (option_or (if_asked Help w) (if_asked Version v)) (other_of (name ∷ [])) ≡ Some Version
+    by true true n f = absurd cc
+    by true false n f = refl
+    by false w n f = absurd cc
+version_asks (name ∷ other ∷ words) e = absurd cc
+
 asks : (words : List (List ℕ)) (command : Command) → IsAskedBy words command → command_of words ≡ Some command
-asks words Play e = play_asks words e
-asks words (Render template body) e = render_asks words template body e
-asks words (Check name) e = check_asks words name e
-asks words (Serve store port lanes) e = serve_asks words store port lanes e
-asks words (Admin store) e = admin_asks words store e
-asks words (Load seed calls) e = load_asks words seed calls e
+asks words Help e = help_asks words e
+asks words Version e = version_asks words e
+asks words Play e = behind_about words Play (play_asks words e)
+asks words (Render template body) e = behind_about words (Render template body) (render_asks words template body e)
+asks words (Check name) e = behind_about words (Check name) (check_asks words name e)
+asks words (Serve store port lanes) e = behind_about words (Serve store port lanes) (serve_asks words store port lanes e)
+asks words (Admin store) e = behind_about words (Admin store) (admin_asks words store e)
+asks words (Load seed calls) e = behind_about words (Load seed calls) (load_asks words seed calls e)
+
+asked_for : (words : List (List ℕ)) (command : Command) → command_of words ≡ Some command → IsAskedBy words command
+unfolding command_of
+asked_for [] command e = asked [] command e
+asked_for (name ∷ []) command e = by (bytes_eq name (codes "help")) refl (bytes_eq name (codes "version")) refl e
+  where
+    by : (v : Bool) → bytes_eq name (codes "help") ≡ v → (w : Bool) → bytes_eq name (codes "version") ≡ w
+        → option_or (option_or (if_asked Help v) (if_asked Version w)) (other_of (name ∷ [])) ≡ Some command → IsAskedBy (name ∷ []) command
+    by true a w b f = subst (IsAskedBy (name ∷ [])) (some_same f) a
+    by false a true b f = subst (IsAskedBy (name ∷ [])) (some_same f) b
+    by false a false b f = asked (name ∷ []) command f
+asked_for (name ∷ other ∷ words) command e = asked (name ∷ other ∷ words) command e
 
 pub commands_have_their_words : CommandsHaveTheirWords
-commands_have_their_words words command = (asked words command, asks words command)
+commands_have_their_words words command = (asked_for words command, asks words command)
 
 -- the numbers are within their bounds
 number_within : (most : ℕ) (o : Option ℕ) (n : ℕ) → option_and_then (in_range most) o ≡ Some n → (1 ≤ n) × (n ≤ most)
@@ -185,6 +231,8 @@ load_within (name ∷ a ∷ b ∷ []) seed calls e = by (bytes_eq name (codes "l
 load_within (name ∷ a ∷ b ∷ other ∷ words) seed calls e = absurd cc
 
 one_within : (words : List (List ℕ)) (command : Command) → IsAskedBy words command → IsWithin command
+one_within words Help e = tt
+one_within words Version e = tt
 one_within words Play e = tt
 one_within words (Render template body) e = tt
 one_within words (Check name) e = tt
@@ -192,9 +240,9 @@ one_within words (Serve store port lanes) e = serve_within words store port lane
 one_within words (Admin store) e = tt
 one_within words (Load seed calls) e = load_within words seed calls e
 
-pub all_within : (words : List (List ℕ)) → IfSome (command_of words) IsWithin
-all_within words = by (command_of words) refl
+pub other_within : (words : List (List ℕ)) → IfSome (other_of words) IsWithin
+other_within words = by (other_of words) refl
   where
-    by : (o : Option Command) → command_of words ≡ o → IfSome o IsWithin
+    by : (o : Option Command) → other_of words ≡ o → IfSome o IsWithin
     by None e = tt
     by (Some command) e = one_within words command (asked words command e)

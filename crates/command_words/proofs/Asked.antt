@@ -6,7 +6,7 @@ use Rattle.std.proofs.lemmas.Bool.{and_parts, eqb-true}
 use Rattle.std.proofs.lemmas.Slice.Eq.{bytes_eq-Decides}
 use Rattle.clap.specs.Words.{Text, subcommand_of, takes}
 use Rattle.record_fields.specs.Numbers.{is_decimal, number_of, read_on}
-use Rattle.command_words.specs.Commands.{asked_of, command_of, in_range, is_argument, load_of, number_to, render_of, serve_of}
+use Rattle.command_words.specs.Commands.{asked_of, other_of, in_range, is_argument, load_of, number_to, render_of, serve_of}
 use Rattle.command_words.specs.Grammar.{gateway}
 use Rattle.command_words.specs.Reading.{read_in}
 use Rattle.command_words.specs.Table.{is_row}
@@ -23,32 +23,32 @@ no_flag false e = refl
 
 -- what is read in such words
 abbrev IsRead : List Text → Type 0
-IsRead words = (takes gateway words ≡ true) × (read_in (subcommand_of gateway words) ≡ command_of words)
+IsRead words = (takes gateway words ≡ true) × (read_in (subcommand_of gateway words) ≡ other_of words)
 
 or_none : (o : Option Command) → option_or o None ≡ o
 or_none None = refl
 or_none (Some x) = refl
 
 play_row : IsRead (codes "play" ∷ [])
-unfolding command_of
+unfolding other_of
 play_row = (play_taken, play_read)
 
 check_row : (only : Text) → is_argument only ≡ true → IsRead (codes "check" ∷ only ∷ [])
-unfolding command_of
+unfolding other_of
 check_row [] h = absurd cc
 check_row (x ∷ a) h =
     let e = no_flag (x == 45) h in
     (check_taken x a e, check_read x a e ∙ rw e refl)
 
 admin_row : (only : Text) → is_argument only ≡ true → IsRead (codes "admin" ∷ only ∷ [])
-unfolding command_of
+unfolding other_of
 admin_row [] h = absurd cc
 admin_row (x ∷ a) h =
     let e = no_flag (x == 45) h in
     (admin_taken x a e, admin_read x a e ∙ rw e refl)
 
 render_row : (first second : Text) → is_argument first ≡ true → is_argument second ≡ true → IsRead (codes "render" ∷ first ∷ second ∷ [])
-unfolding command_of
+unfolding other_of
 render_row [] second h k = absurd cc
 render_row (x ∷ a) [] h k = absurd cc
 render_row (x ∷ a) (y ∷ b) h k =
@@ -57,7 +57,7 @@ render_row (x ∷ a) (y ∷ b) h k =
     (render_taken x y a b e f, render_read x y a b e f ∙ rw (e, f) refl)
 
 load_row : (first second : Text) → is_argument first ≡ true → is_argument second ≡ true → IsRead (codes "load" ∷ first ∷ second ∷ [])
-unfolding command_of
+unfolding other_of
 load_row [] second h k = absurd cc
 load_row (x ∷ a) [] h k = absurd cc
 load_row (x ∷ a) (y ∷ b) h k =
@@ -66,7 +66,7 @@ load_row (x ∷ a) (y ∷ b) h k =
     (load_taken x y a b e f, load_read x y a b e f)
 
 serve_row : (first second third : Text) → is_argument first ≡ true → is_argument second ≡ true → is_argument third ≡ true → IsRead (codes "serve" ∷ first ∷ second ∷ third ∷ [])
-unfolding command_of
+unfolding other_of
 serve_row [] second third h k l = absurd cc
 serve_row (x ∷ a) [] third h k l = absurd cc
 serve_row (x ∷ a) (y ∷ b) [] h k l = absurd cc
@@ -135,8 +135,8 @@ zip_none None = refl
 zip_none (Some n) = refl
 
 -- words outside the table ask for nothing
-pub others_ask_nothing : (words : List Text) → is_row words ≡ false → None ≡ command_of words
-unfolding command_of
+pub others_ask_nothing : (words : List Text) → is_row words ≡ false → None ≡ other_of words
+unfolding other_of
 others_ask_nothing [] h = refl
 others_ask_nothing (name ∷ []) h = rw h refl
 others_ask_nothing (name ∷ only ∷ []) h = by (bytes_eq name (codes "check")) (bytes_eq name (codes "admin")) (is_argument only) h

@@ -4,13 +4,23 @@ use Rattle.std.specs.Option.{option_and_then, option_map, option_or, option_zip}
 use Rattle.std.specs.Str.{bytes_eq}
 use Rattle.record_fields.specs.Numbers.{number_of}
 use Rattle.command_words.specs.declared.commands.Command.{Command}
-use Rattle.command_words.specs.declared.commands.Command.TheVariants.{Play, Render, Check, Serve, Admin, Load}
+use Rattle.command_words.specs.declared.commands.Command.TheVariants.{Help, Version, Play, Render, Check, Serve, Admin, Load}
 
--- the words are `play` alone
+-- the words are this one alone
+abbrev pub is_alone : List ℕ → List (List ℕ) → Bool
+is_alone name [] = false
+is_alone name (word ∷ []) = bytes_eq word name
+is_alone name (word ∷ other ∷ words) = false
+
+-- the words are `help`, `version` or `play` alone
+abbrev pub is_help : List (List ℕ) → Bool
+is_help words = is_alone (codes "help") words
+
+abbrev pub is_version : List (List ℕ) → Bool
+is_version words = is_alone (codes "version") words
+
 abbrev pub is_play : List (List ℕ) → Bool
-is_play [] = false
-is_play (word ∷ []) = bytes_eq word (codes "play")
-is_play (word ∷ other ∷ words) = false
+is_play words = is_alone (codes "play") words
 
 -- the word is neither empty nor a flag
 abbrev pub is_argument : List ℕ → Bool
@@ -72,8 +82,9 @@ load_asked (word ∷ seed ∷ []) = None
 load_asked (word ∷ seed ∷ calls ∷ []) = if bytes_eq word (codes "load") then option_zip (number_of 64 seed) (number_to 300000 calls) else None
 load_asked (word ∷ seed ∷ calls ∷ other ∷ words) = None
 
-abbrev pub play_of : Bool → Option Command
-play_of asked = if asked then Some Play else None
+-- this command, where it is asked for
+abbrev pub if_asked : Command → Bool → Option Command
+if_asked command asked = if asked then Some command else None
 
 abbrev pub render_of : List ℕ × List ℕ → Command
 render_of names = Render names.0 names.1
@@ -84,17 +95,27 @@ serve_of asked = Serve asked.0 asked.1 asked.2
 abbrev pub load_of : ℕ × ℕ → Command
 load_of asked = Load asked.0 asked.1
 
--- what the words ask for
-unfoldable pub command_of : List (List ℕ) → Option Command
-command_of words =
-    option_or (play_of (is_play words))
+-- what the words ask for beyond `help` and `version`
+unfoldable pub other_of : List (List ℕ) → Option Command
+other_of words =
+    option_or (if_asked Play (is_play words))
     (option_or (option_map render_of (render_names words))
     (option_or (option_map Check (check_name words))
     (option_or (option_map serve_of (serve_asked words))
     (option_or (option_map Admin (admin_store words)) (option_map load_of (load_asked words))))))
 
+-- `help` or `version`, where one is asked for
+abbrev pub about_of : List (List ℕ) → Option Command
+about_of words = option_or (if_asked Help (is_help words)) (if_asked Version (is_version words))
+
+-- what the words ask for
+unfoldable pub command_of : List (List ℕ) → Option Command
+command_of words = option_or (about_of words) (other_of words)
+
 -- what a command's words are
 abbrev pub IsAskedBy : List (List ℕ) → Command → Type 0
+IsAskedBy words Help = is_help words ≡ true
+IsAskedBy words Version = is_version words ≡ true
 IsAskedBy words Play = is_play words ≡ true
 IsAskedBy words (Render template body) = render_names words ≡ Some (template, body)
 IsAskedBy words (Check name) = check_name words ≡ Some name
@@ -110,6 +131,8 @@ CommandsHaveTheirWords = (words : List (List ℕ)) (command : Command) → (comm
 abbrev pub IsWithin : Command → Type 0
 IsWithin (Serve store port lanes) = (1 ≤ port) × (port ≤ 65535) × (1 ≤ lanes) × (lanes ≤ 8)
 IsWithin (Load seed calls) = (1 ≤ calls) × (calls ≤ 300000)
+IsWithin Help = ⊤
+IsWithin Version = ⊤
 IsWithin Play = ⊤
 IsWithin (Render template body) = ⊤
 IsWithin (Check name) = ⊤

@@ -4,6 +4,10 @@ use gw_base::Text;
 /// What the words ask for.
 #[derive(Drop)]
 pub enum Command {
+    /// Prints the commands.
+    Help,
+    /// Prints the version of the program and that of a store.
+    Version,
     /// Plays the script of the input.
     Play,
     /// Prints what the template of one file gives over the body of another.

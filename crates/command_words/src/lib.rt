@@ -9,13 +9,15 @@
 //!
 //! | Words | Command |
 //! |---|---|
+//! | `help` | `Help` |
+//! | `version` | `Version` |
 //! | `play` | `Play` |
 //! | `render TEMPLATE BODY` | `Render { template, body }` |
 //! | `check FILE` | `Check { name }` |
 //! | `serve STORE PORT LANES`, with a port of 1 to 65535 and 1 to 8 lanes | `Serve { store, port, lanes }` |
 //! | `admin STORE` | `Admin { store }` |
 //! | `load SEED N`, a seed of 64 bits and 1 to 300000 calls | `Load { seed, calls }` |
-//! | `play -v`, `check --help`, `check ""`, `serve s 0 1`, `serve s 80 +1`, `load 0 0`, `help`, no word | none |
+//! | `play -v`, `check --help`, `check ""`, `serve s 0 1`, `serve s 80 +1`, `load 0 0`, `help play`, no word | none |
 //!
 //! A word that is empty or begins with `-` is no argument: there are no flags. A number is decimal digits.
 //!

@@ -1,7 +1,7 @@
 // The words, read.
 ghost use Rattle.std.specs.Prelude.{◌≡◌, IfOk, IfSome, true};
 ghost use Rattle.clap.specs.Words.{found_of, rows_of, subcommand_rows_of};
-ghost use Rattle.command_words.specs.Commands.{command_of, IsWithin};
+ghost use Rattle.command_words.specs.Commands.{about_of, command_of, other_of, IsWithin};
 ghost use Rattle.command_words.specs.Grammar.{texts_of};
 ghost use Rattle.command_words.specs.Reading.{command_by as command_by_name, load_by as load_by_rows, read_in, serve_by as serve_by_rows, word_of as word_of_rows};
 ghost use Rattle.command_words.specs.Table.{is_row as is_row_of};
@@ -99,7 +99,7 @@ fn lent<'a>(alloc: Global, words: &'a [Text]) -> Result<Vec<&'a str>, AllocError
 // What words in the table ask for.
 fn read_row(alloc: Global, words: &[Text]) -> Result<Option<Command>, Memory>
     requires { is_row_of words.now ≡ true }
-    ensures { IfOk result (λ command. command ≡ command_of words.now) }
+    ensures { IfOk result (λ command. command ≡ other_of words.now) }
 {
     let texts = lent(alloc, words)?;
     match parse(alloc, &texts) {
@@ -108,14 +108,36 @@ fn read_row(alloc: Global, words: &[Text]) -> Result<Option<Command>, Memory>
     }
 }
 
-/// What the words behind the program's name ask for.
-pub fn read_words(alloc: Global, words: &[Text]) -> Result<Option<Command>, Memory>
-    ensures command { IfOk result (λ command. command ≡ command_of words.now) }
-    ensures within { IfOk result (λ command. IfSome command IsWithin) }
+// `help` or `version`, where one is asked for. `clap` has a `help` of its own, so these words do not go to it.
+fn about(words: &[Text]) -> Option<Command>
+    ensures { result ≡ about_of words.now }
+{
+    match words {
+        [name] if name.as_str() == "help" => Some(Command::Help),
+        [name] if name.as_str() == "version" => Some(Command::Version),
+        _ => None,
+    }
+}
+
+// What words ask for beyond these.
+fn read_other(alloc: Global, words: &[Text]) -> Result<Option<Command>, Memory>
+    ensures { IfOk result (λ command. command ≡ other_of words.now) }
 {
     if is_row(words) {
         read_row(alloc, words)
     } else {
         Ok(None)
+    }
+}
+
+/// What the words behind the program's name ask for.
+#[tactic(auto, unfolding(crate::specs::Commands::command_of))]
+pub fn read_words(alloc: Global, words: &[Text]) -> Result<Option<Command>, Memory>
+    ensures command { IfOk result (λ command. command ≡ command_of words.now) }
+    ensures within { IfOk result (λ command. IfSome command IsWithin) }
+{
+    match about(words) {
+        Some(command) => Ok(Some(command)),
+        None => read_other(alloc, words),
     }
 }

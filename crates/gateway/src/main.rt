@@ -5,7 +5,7 @@
 //! standard error it says where it listens.
 #![tactic(auto)]
 
-use gateway_cli::run;
+use gateway_cli::{HELP, run};
 use gateway_machine::{MachineOutside, ReaderSource, WriterSink};
 use gateway_stores::FileStores;
 use gw_base::{Text, write_all};
@@ -28,16 +28,6 @@ fn words_of(rt: &(impl Env + AllocGlobal), alloc: Global) -> Vec<Text> {
     words
 }
 
-/// What is said on standard error of words that are no command.
-const USAGE: &[u8] = b"usage: gateway COMMAND
-  serve STORE PORT LANES    serves 127.0.0.1:PORT, over 1 to 8 lanes
-  admin STORE               carries out the commands on standard input
-  play                      plays the script on standard input
-  check FILE                tells whether a file is the definition of an API
-  render TEMPLATE BODY      prints what a template gives over a body
-  load SEED N               plays 1 to 300000 calls that a seed makes up, and prints their summary
-";
-
 fn main(rt: HostRuntime) -> ExitCode {
     let alloc = rt.alloc();
     let words = words_of(&rt, alloc);
@@ -46,7 +36,7 @@ fn main(rt: HostRuntime) -> ExitCode {
     let mut outside = MachineOutside::new(&rt, alloc, FileStores::new(&rt), rt.stderr());
     let status = run(&rt, alloc, &words, &mut input, &mut output, &mut outside);
     if status == 2 {
-        let _ = write_all(&mut WriterSink::new(rt.stderr()), USAGE);
+        let _ = write_all(&mut WriterSink::new(rt.stderr()), HELP);
     }
     ExitCode::from(status)
 }

@@ -1,9 +1,9 @@
 -- What is printed of a command.
 use Rattle.std.proofs.Common.{◌≡◌, inl, ℕ, Bool, true, false, List, [], Option, Some, None, Result, Err, IfOk, OnErr, refl, sym, ◌∙◌, subst}
 use Rattle.command_words.specs.declared.commands.Command.{Command}
-use Rattle.command_words.specs.declared.commands.Command.TheVariants.{Play, Render, Check, Serve, Admin, Load}
+use Rattle.command_words.specs.declared.commands.Command.TheVariants.{Help, Version, Play, Render, Check, Serve, Admin, Load}
 use Rattle.load_command.specs.Loading.{LoadedFront, LoadedWithin}
-use Rattle.gateway_cli.specs.Commands.{is_play, is_plain, served, administered, over_files, usage, Outcome, OutcomeFront, TellsLoadToFail}
+use Rattle.gateway_cli.specs.Commands.{is_play, is_plain, served, administered, over_files, Outcome, OutcomeFront, TellsLoadToFail}
 use Rattle.outside_core.specs.Files.{Files}
 use Rattle.play_script.specs.Play.{Output, Played, PlayedFront, IsFront, SaysFront, session_limits}
 use Rattle.gw_base.specs.Whole.{AppendsFront}
@@ -59,6 +59,8 @@ none_is other script files = ((over_files files other).text, refl)
 -- where nothing else is asked for, no command is
 pub none_asked : (command : Option Command) → is_plain command ≡ false → None ≡ served command → None ≡ administered command → command ≡ None
 none_asked None plain serves admins = refl
+none_asked (Some Help) plain serves admins = absurd cc
+none_asked (Some Version) plain serves admins = absurd cc
 none_asked (Some Play) plain serves admins = absurd cc
 none_asked (Some (Render template body)) plain serves admins = absurd cc
 none_asked (Some (Check name)) plain serves admins = absurd cc
@@ -119,16 +121,16 @@ module _ (left : Option (List ℕ)) (told : Option Files) (command : Option Comm
       (λ files front. let says = says_front a b (text files) front in
       (says.0, other_front command script files says.0 h (subst (IsFront says.0) (sym (is files)) says.1), says.2)) fronts)) holds
 
-  -- and of none
-  pub of_usage : {E : Type 0} (r : Result ℕ E) → IfOk r (λ status. Answered a b usage status)
-      → ((files : Files) → over_files files command ≡ usage) → is_fixed command ≡ true → IfOk r Answers
-  of_usage r holds is h =
-      of_other r {printed = λ files. usage}
-      (if_ok_map r (λ status. Answered a b usage status) (λ status. OfTold told (λ files. Answered a b usage status)) (λ status answered. of_any [] told _ (λ files. answered)) holds) is h
+  -- and where that is one text, whatever the files are
+  pub of_text : {E : Type 0} (r : Result ℕ E) (shown : Output) → IfOk r (λ status. Answered a b shown status)
+      → ((files : Files) → over_files files command ≡ shown) → is_fixed command ≡ true → IfOk r Answers
+  of_text r shown holds is h =
+      of_other r {printed = λ files. shown}
+      (if_ok_map r (λ status. Answered a b shown status) (λ status. OfTold told (λ files. Answered a b shown status)) (λ status answered. of_any [] told _ (λ files. answered)) holds) is h
 
-  pub of_usage_front : {E : Type 0} (r : Result ℕ E) → AppendsFront a b usage.text
-      → ((files : Files) → (over_files files command).text ≡ usage.text) → is_fixed command ≡ true → OnErr r Fronts
-  of_usage_front r front is h = of_other_front r {text = λ files. usage.text} (on_err_of r _ (of_any [] told _ (λ files. front))) is h
+  pub of_text_front : {E : Type 0} (r : Result ℕ E) (shown : Output) → AppendsFront a b shown.text
+      → ((files : Files) → (over_files files command).text ≡ shown.text) → is_fixed command ≡ true → OnErr r Fronts
+  of_text_front r shown front is h = of_other_front r {text = λ files. shown.text} (on_err_of r _ (of_any [] told _ (λ files. front))) is h
 
   -- a command that plays nothing tells no load to fail
   pub of_unloaded : {E : Type 0} (r : Result ℕ E) (e : E) → r ≡ Err e → OnErr r Fronts → is_play command ≡ false

@@ -2,7 +2,7 @@
 use Rattle.std.specs.Prelude.{◌≡◌, ℕ, Bool, true, false, ◌||◌, List, ◌++◌, codes, Option, Some, None}
 use Rattle.std.specs.Option.{is_some}
 use Rattle.command_words.specs.declared.commands.Command.{Command}
-use Rattle.command_words.specs.declared.commands.Command.TheVariants.{Play, Render, Check, Serve, Admin, Load}
+use Rattle.command_words.specs.declared.commands.Command.TheVariants.{Help, Version, Play, Render, Check, Serve, Admin, Load}
 use Rattle.gateway_cli.specs.Check.{check_of}
 use Rattle.load_command.specs.Loading.{LoadedFront, LoadedWithin}
 use Rattle.outside_core.specs.Files.{Files}
@@ -17,6 +17,8 @@ is_play other = false
 
 -- a command that serves nothing and administers nothing is asked for
 abbrev pub is_plain : Option Command → Bool
+is_plain (Some Help) = true
+is_plain (Some Version) = true
 is_plain (Some Play) = true
 is_plain (Some (Render template body)) = true
 is_plain (Some (Check name)) = true
@@ -41,10 +43,25 @@ reads_input command = is_play command || is_some (administered command)
 abbrev pub usage : Output
 usage = record { text = codes "usage" ++ line_feed; status = 2 }
 
+-- what the program says of itself: its commands, and its version with that of a store
+unfoldable pub help_text : List ℕ
+help_text = codes "usage: gateway COMMAND\n  serve STORE PORT LANES    serves 127.0.0.1:PORT, over 1 to 8 lanes\n  admin STORE               carries out the commands on standard input\n  play                      plays the script on standard input\n  check FILE                tells whether a file is the definition of an API\n  render TEMPLATE BODY      prints what a template gives over a body\n  load SEED N               plays 1 to 300000 calls that a seed makes up, and prints their summary\n  help                      prints this\n  version                   prints the version of the program, and that of its stores\n"
+
+unfoldable pub version_text : List ℕ
+version_text = codes "gateway 0.3.0\nstore 1\n"
+
+abbrev pub help : Output
+help = record { text = help_text; status = 0 }
+
+abbrev pub version : Output
+version = record { text = version_text; status = 0 }
+
 -- what is printed of these files where neither a play nor a load is asked for, and nothing is to be served or administered
 abbrev pub over_files : Files → Option Command → Output
 over_files files (Some (Render template body)) = render_of files template body
 over_files files (Some (Check name)) = check_of files name
+over_files files (Some Help) = help
+over_files files (Some Version) = version
 over_files files other = usage
 
 -- what the program prints of this input and these files where this is asked for, and nothing is to be served or administered

@@ -2,6 +2,7 @@
 //!
 //! [`run`] takes the words behind the program's name, an input, an output and an outside, and answers the program's status. What
 //! the words ask for is read once, by `command_words`; where memory is wanting for that, nothing is written.
+//! `help` prints the commands, and `version` the version of the program and that of its stores.
 //! `play` reads a script from the input and plays it over an empty book, as `play_script` says it; `render TEMPLATE BODY`
 //! prints what the template of the one file gives over the body of the other; `check FILE` tells whether the file is a
 //! definition of an API; `admin STORE` carries out the commands that stand on the input over the tables of a store, as
@@ -58,6 +59,7 @@
 //! Left out: what is written where memory is wanting in `serve`.
 #![tactic(auto)]
 
+mod about;
 mod administering;
 mod check;
 mod command;
@@ -73,6 +75,7 @@ mod serving;
 mod shown;
 mod stopped;
 
+pub use about::HELP;
 pub use outside_core::{MemOutside, MemStore, Outside};
 pub use play_script::{PlayStop, play_within};
 pub use program::run;

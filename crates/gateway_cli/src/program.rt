@@ -6,7 +6,7 @@ ghost use Rattle.gw_base.specs.Outside.{Rose};
 ghost use Rattle.gw_base.specs.Whole.{AppendsFront};
 ghost use Rattle.gateway_cli.specs.Check.{check_of};
 ghost use Rattle.command_words.specs.Commands.{command_of, IsWithin};
-ghost use Rattle.gateway_cli.specs.Commands.{Outcome, OutcomeFront, TellsLoadToFail, usage, is_plain, is_play, served, administered, reads_input};
+ghost use Rattle.gateway_cli.specs.Commands.{Outcome, OutcomeFront, TellsLoadToFail, is_plain, is_play, served, administered, reads_input};
 ghost use Rattle.gateway_cli.specs.Admin.{Administered, AdminWantsMemory, AdminFaulted};
 ghost use Rattle.play_script.specs.Play.{Played, PlayedFront, FailsToLoad, SaysFront, is_command_status, session_limits};
 ghost use Rattle.gateway_cli.specs.Render.{render_of};
@@ -14,6 +14,7 @@ ghost use Rattle.gateway_cli.specs.Top.{OfTold, Answered, Says, Faulted, ServeFa
 ghost use Rattle.serve_command.specs.Serving.{Ends};
 ghost use Rattle.serve_command.specs.Shelves.{Shelves, AllIsBack};
 
+use crate::about::{say_help, say_usage, say_version};
 use crate::administering::admin;
 use crate::check::check_within;
 use crate::command::{asked_in, store_in};
@@ -141,19 +142,6 @@ fn check<W: Sink, O: Outside<Entry>>(
     say(output, shown.text.as_str().as_bytes(), shown.status)
 }
 
-// Says that the words are none of a command.
-fn say_usage<W: Sink>(output: &mut W) -> Result<u8, Stopped>
-    ensures answered { IfOk result (λ status. Answered (W.written output.old) (W.written output.new) usage status) }
-    ensures front { AppendsFront (W.written output.old) (W.written output.new) usage.text }
-    ensures known { IfOk result (λ status. status ≡ 2) }
-    ensures input { result ≢ Err Stopped.Input }
-    ensures file { result ≢ Err Stopped.File }
-    ensures keeper { result ≢ Err Stopped.Keeper }
-    ensures output { IsErrOf result Stopped.Output → Rose (W.faults output.old) (W.faults output.new) }
-{
-    say(output, b"usage\n", 2)
-}
-
 // Does what is asked for, where that is neither to serve nor to administer.
 fn respond<I: Source, W: Sink, O: Outside<Entry>, R: Wait>(
     rt: &R,
@@ -183,6 +171,8 @@ fn respond<I: Source, W: Sink, O: Outside<Entry>, R: Wait>(
     ensures lanes { O.lanes_out outside.new ≡ O.lanes_out outside.old }
 {
     match command {
+        Some(Command::Help) => say_help(output),
+        Some(Command::Version) => say_version(output),
         Some(Command::Play) => play(rt, alloc, input, output),
         Some(Command::Render { template, body }) => {
             render(alloc, template.as_str(), body.as_str(), output, outside)

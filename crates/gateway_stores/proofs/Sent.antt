@@ -1,8 +1,7 @@
 -- The program's keeper may go to another thread.
-use denote.Param.Send.{IsSend, owning_send, sendable, view_send}
+use denote.Param.Send.{IsSend, owning_send, sendable}
 use denote.Param.SendFields.{declared_send}
 use Rattle.gateway_stores.specs.contracts.keeper.FileKeeper as keeper
-use Rattle.gateway_stores.specs.contracts.keeper.FileKeeper.TheInside as inside
 use Rattle.gateway_stores.proofs.path.StorePath.TheSendSync as path
 use Rattle.keeper_sqlite.proofs.Sent.{keeper_send as over_send}
 use Rattle.sqlite_disk.proofs.modelled.Modelled.TheSendSync as modelled
@@ -21,4 +20,4 @@ host_send = declared_send host.the_type (file.the_send, (noted_send, tt))
 
 -- the keeper over its connection and its path
 pub keeper_send : IsSend keeper.the_row
-keeper_send = view_send _ _ _ _ _ (declared_send inside.the_type (search (over_send, store.the_send, modelled.the_send, host_send, path.the_send, sendable) depth 30, tt))
+keeper_send = declared_send keeper.the_type (search (over_send, store.the_send, modelled.the_send, host_send, path.the_send, sendable) depth 30, tt)

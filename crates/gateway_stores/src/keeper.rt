@@ -1,15 +1,16 @@
 // The program's keeper, over the file of a store.
-ghost use Rattle.std.specs.Prelude.{◌≡◌, [], IfOk};
-ghost use Rattle.gateway_stores.specs.Keepers.{told_of};
+ghost use Rattle.std.specs.Prelude.{◌≡◌, [], ◌∷◌, ◌++◌, IfOk, IsSome, OnOk, OnErr};
+ghost use Rattle.gateway_stores.specs.Keepers.{IsChange, IsLoad, IsRewrite};
+ghost use Rattle.keeper_core.specs.Keeping.{HasKeepCause, HasLoadCause};
+ghost use Rattle.keeper_sqlite.specs.Stands.{told_by};
 
 use crate::path::StorePath;
 use keeper_core::{JoinRow, KeepFault, Keeper, LoadFault, Row, Tables};
 use keeper_sqlite::{SqliteKeeper, StartFault};
 use sqlite::{File, FileStore};
 use std::alloc::Global;
-use std::marker::Model;
 
-/// A keeper over the file of a store. A contract sees what is staged, and how often a call and a load have failed.
+/// A keeper over the file of a store: a [`SqliteKeeper`] over a file of the machine. A contract sees that keeper.
 pub struct FileKeeper {
     keeper: SqliteKeeper<FileStore<File>, StorePath>,
 }
@@ -21,21 +22,11 @@ impl Drop for FileKeeper {
     }
 }
 
-impl Model for FileKeeper {
-    ghost use Rattle.std.specs.Prelude.{⊤};
-    ghost use Rattle.gateway_stores.specs.Keepers.{FileStand};
-
-    ghost Value = { FileStand };
-
-    ghost view = { λ k. record { staged = k.keeper.staged; faults = k.keeper.faults; loads = k.keeper.loads } };
-
-    ghost invariant = { λ k. ⊤ };
-}
-
 impl FileKeeper {
     /// Opens the store in this file, or makes it.
     pub fn start(alloc: Global, file: StorePath) -> Result<FileKeeper, StartFault>
-        ensures { IfOk result (λ keeper. keeper ≡ record { staged = []; faults = 0; loads = 0 }) }
+        ensures unused { IfOk result (λ made. (made.keeper.staged ≡ []) × (made.keeper.faults ≡ 0) × (made.keeper.loads ≡ 0)) }
+        ensures open { IfOk result (λ made. IsSome made.keeper.link.conn × (made.keeper.link.owed ≡ [])) }
     {
         Ok(FileKeeper {
             keeper: SqliteKeeper::start(alloc, file)?,
@@ -44,7 +35,7 @@ impl FileKeeper {
 
     /// How often a load has failed, up to the count's greatest value.
     pub fn loads(&self) -> u64
-        ensures { result ≡ self.now.loads }
+        ensures { result ≡ self.now.keeper.loads }
     {
         self.keeper.loads()
     }
@@ -57,21 +48,39 @@ impl Keeper for FileKeeper {
 
     ghost IN_PLACE = { false };
 
-    ghost facts = { told_of };
+    ghost facts = { λ k. told_by k.keeper };
 
-    fn load(&mut self, alloc: Global) -> Result<Tables, LoadFault> {
+    fn load(&mut self, alloc: Global) -> Result<Tables, LoadFault>
+        ensures staged { self.new.keeper.staged ≡ self.old.keeper.staged }
+        ensures cause { HasLoadCause (told_by self.old.keeper) (told_by self.new.keeper) result }
+        ensures load { IsLoad self.old.keeper.link self.new.keeper.link result }
+    {
         self.keeper.load(alloc)
     }
 
-    fn put_row(&mut self, alloc: Global, row: &Row) -> Result<(), KeepFault> {
+    fn put_row(&mut self, alloc: Global, row: &Row) -> Result<(), KeepFault>
+        ensures ok { OnOk result (self.new.keeper.staged ≡ self.old.keeper.staged ++ row.now ∷ []) }
+        ensures err { OnErr result (self.new.keeper.staged ≡ []) }
+        ensures cause { HasKeepCause (told_by self.old.keeper) (told_by self.new.keeper) result }
+        ensures link { self.new.keeper.link ≡ self.old.keeper.link }
+    {
         self.keeper.put_row(alloc, row)
     }
 
-    fn commit(&mut self, alloc: Global) -> Result<(), KeepFault> {
+    fn commit(&mut self, alloc: Global) -> Result<(), KeepFault>
+        ensures staged { self.new.keeper.staged ≡ [] }
+        ensures cause { HasKeepCause (told_by self.old.keeper) (told_by self.new.keeper) result }
+        ensures change { IsChange self.old.keeper.staged self.old.keeper.link self.new.keeper.link result }
+    {
         self.keeper.commit(alloc)
     }
 
-    fn rewrite(&mut self, alloc: Global, row: &JoinRow) -> Result<(), KeepFault> {
+    fn rewrite(&mut self, alloc: Global, row: &JoinRow) -> Result<(), KeepFault>
+        requires { self.old.keeper.staged ≡ [] }
+        ensures staged { self.new.keeper.staged ≡ [] }
+        ensures cause { HasKeepCause (told_by self.old.keeper) (told_by self.new.keeper) result }
+        ensures change { IsRewrite row.now self.old.keeper.link self.new.keeper.link result }
+    {
         self.keeper.rewrite(alloc, row)
     }
 }

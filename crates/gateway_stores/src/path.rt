@@ -1,6 +1,5 @@
 // The file of a store, by its path.
-ghost use Rattle.sqlite.specs.Files.{file_state, IsOpened};
-ghost use Rattle.sqlite.specs.State.{HasCleanDisk};
+ghost use Rattle.gateway_stores.specs.Keepers.{IsFresh};
 
 use gw_base::Memory;
 use keeper_sqlite::StoreFile;
@@ -26,7 +25,7 @@ impl StorePath {
 impl StoreFile for StorePath {
     type Conn = Connection<FileStore<File>>;
 
-    ghost is_fresh = { λ conn. HasCleanDisk (file_state conn) → IsOpened conn };
+    ghost is_fresh = { λ conn. IsFresh conn };
 
     fn open(&mut self) -> Result<Connection<FileStore<File>>, Error> {
         Connection::open(&self.rt, self.path.as_str())

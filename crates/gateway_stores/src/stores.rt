@@ -1,7 +1,7 @@
 // Stores in files.
 ghost use Rattle.std.specs.Prelude.{◌≡◌, nat_lt};
-ghost use Rattle.gateway_stores.specs.Keepers.{told_of};
 ghost use Rattle.gateway_stores.specs.Starts.{start_by};
+ghost use Rattle.keeper_sqlite.specs.Stands.{told_by};
 
 use crate::keeper::FileKeeper;
 use crate::path::StorePath;
@@ -48,7 +48,7 @@ impl<'r> Stores for FileStores<'r> {
     }
 
     fn has_failed(keep: &FileKeeper) -> bool
-        ensures { result ≡ nat_lt 0 (told_of keep.now).loads }
+        ensures { result ≡ nat_lt 0 (told_by keep.now.keeper).loads }
     {
         keep.loads() > 0
     }

@@ -1,2 +1,3 @@
 mod Giving
 mod Serves
+mod Telling

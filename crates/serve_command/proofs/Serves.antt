@@ -1,9 +1,9 @@
 -- Sessions that were held between the opening of a store and the giving back.
-use Rattle.std.proofs.Common.{◌≡◌, ℕ, zero, suc, true, false, List, [], ◌∷◌, ◌++◌, All, length, map, Option, Result, Ok, Err, IfOk, IfErr, IsErrOf, inl, inr, ap, sym, ◌∙◌, subst, arith, refl}
+use Rattle.std.proofs.Common.{◌≡◌, ℕ, zero, suc, true, false, List, [], ◌∷◌, ◌++◌, All, length, map, Option, Some, None, IfSome, Result, Ok, Err, IfOk, IfErr, IsErrOf, inl, inr, ap, sym, ◌∙◌, subst, arith, refl}
+use Rattle.std.specs.Prelude.{is_some}
 use Rattle.std.specs.Io.KnownBytes.{Appends}
 use Rattle.std.specs.List.{list_any}
 use Rattle.backend_core.specs.Exchanges.{gained}
-use Rattle.book_core.specs.Starts.{StartFails}
 use Rattle.book_core.specs.declared.start.StartFault.{StartFault}
 use Rattle.book_core.specs.declared.start.StartFault.TheVariants.{BadStore, StoreFault, Memory}
 use Rattle.book_rules.specs.History.{Base}
@@ -13,12 +13,14 @@ use Rattle.gate_walk.specs.declared.ended.LaneEnd.{LaneEnd}
 use Rattle.gw_base.specs.Outside.{Rose}
 use Rattle.gw_base.specs.Whole.{AppendsFront}
 use Rattle.keeper_core.specs.Keeping.{KeeperFacts}
+use Rattle.keeper_core.specs.Lists.{Lists}
 use Rattle.outside_core.specs.Lending.{behind, gained_all}
 use Rattle.outside_core.specs.Stores.{stored}
 use Rattle.outside_core.specs.Told.{LaneTold}
 use Rattle.session_chain.specs.Chains.{Chain, HeldSession}
 use Rattle.session_chain.specs.Ends.{has_port_fault, wants_memory}
-use Rattle.session_chain.specs.Served.{Around, HasEnded, IsRefused, WasCut, IfRefused}
+use Rattle.session_chain.specs.Served.{Around, HasEnded, IsRefused, NextFails, WasCut, IfRefused}
+use Rattle.serve_command.proofs.Telling.{chain_tells}
 use Rattle.session_chain.specs.declared.fault.AllFault.{AllFault}
 use Rattle.session_chain.specs.declared.fault.AllFault.TheVariants as all
 use Rattle.serve_command.specs.Ends.{IfServed, IfStopped, stop_by_all, stop_by_next}
@@ -54,11 +56,26 @@ pub record Lends (lanes : List LaneTold) (opened lent : Shelves) : Type 0 where
   pub sessions : lent.sessions ≡ opened.sessions
   pub faults : lent.faults ≡ opened.faults
 
+told_by : {A : Type 0} {P Q : A → Type 0} (o : Option A) → ((a : A) → P a → Q a) → IfSome o P → IfSome o Q
+told_by None h p = tt
+told_by (Some a) h p = h a p
+
+-- where stores are told, tables are
+untold : {A B : Type 0} (stores : Option A) (tables : Option B) → IfSome stores (λ told. is_some tables ≡ true) → tables ≡ None → stores ≡ None
+untold None tables tells none = refl
+untold (Some told) tables tells none = absurd (differ (sym (ap is_some none) ∙ tells))
+  where
+    differ : false ≡ true → ⊥
+    differ e = cc
+
 -- from the opening of the store, through the lending of the lanes and the sessions, to the giving back
 module _ (limits : Limits) (name : List ℕ) (number : ℕ) (first opened lent served back : Shelves) (base : Base) (empty : List Entry) (lanes now_lanes : List LaneTold) (keeper : KeeperFacts)
     (written now : Option (List ℕ)) (o : Opened limits name first opened base empty) (l : Lends lanes opened lent) (many : length lanes ≡ number) (s : Stays lent served) (b : AreBack name keeper now_lanes served back) where
   abbrev pub around : Around
   around = record { lent = lanes; back = now_lanes; archived = lent.sessions; archive = served.sessions; written = written; now = now }
+
+  last_tells : (full : List HeldSession) (last : HeldSession) → Chain limits base lanes now_lanes lent.sessions served.sessions full last → is_some last.keeper.tables ≡ is_some base.start.tables
+  last_tells full last chain = chain_tells limits base lanes now_lanes lent.sessions served.sessions full last chain
 
   held : (full : List HeldSession) (last : HeldSession) → Chain limits base lanes now_lanes lent.sessions served.sessions full last → keeper.tables ≡ last.keeper.tables
       → Held limits name number first back full last keeper
@@ -76,6 +93,7 @@ module _ (limits : Limits) (name : List ℕ) (number : ℕ) (first opened lent s
         (subst (λ a. Chain limits base lanes now_lanes lent.sessions a full last) (sym b.sessions) chain);
     kept_back = b.kept_back ∙ ap (λ r. gained r keeper) (s.kept_back ∙ l.kept_back ∙ ap (λ x. x.kept_back) o.lent);
     tables = same;
+    tells = told_by first.stores (λ told same_tables. ap (λ (k : Option Lists). is_some k) same ∙ last_tells full last chain ∙ ap is_some same_tables) o.tells;
     stored = b.stores ∙ ap (stored name keeper.tables) (s.stores ∙ l.stores ∙ ap (λ x. x.stores) o.lent);
   }
 
@@ -112,17 +130,27 @@ module _ (limits : Limits) (name : List ℕ) (number : ℕ) (first opened lent s
         ),
       )
 
-  by_keeper : (fault : StartFault) (before : KeeperFacts) → StartFails before fault keeper → stop_by_next fault ≡ serving.Keeper → IsByKeeper first back fault
-  by_keeper (BadStore table row) before fails is = tt
-  by_keeper StoreFault before fails is = rose (b.load (above_none before.loads keeper.loads fails))
-  by_keeper Memory before fails is = absurd (differ is)
+  by_keeper : (fault : StartFault) (before : KeeperFacts) → IfSome first.stores (λ told. is_some before.tables ≡ true) → NextFails before fault keeper → stop_by_next fault ≡ serving.Keeper → IsByKeeper first back fault
+  by_keeper (BadStore table row) before tells fails is = untold first.stores before.tables tells fails.0
+  by_keeper StoreFault before tells fails is = rose (b.load (above_none before.loads keeper.loads fails))
+  by_keeper Memory before tells fails is = absurd (differ is)
     where
       differ : serving.Memory ≡ serving.Keeper → ⊥
       differ e = cc
 
   -- the next session was refused, or its line was cut
   stopped_keeper : (fault : AllFault) → IfRefused fault (IsRefused limits base around keeper) → stop_by_all fault ≡ serving.Keeper → KeeperFails limits name number first back written now
-  stopped_keeper (all.Start fault) h is = inr (h.0, h.1, keeper, fault, held h.0 h.1 h.2 h.4, h.3, by_keeper fault h.1.keeper h.3 is, h.5, h.6)
+  stopped_keeper (all.Start fault) h is = inr (
+    h.0,
+    h.1,
+    keeper,
+    fault,
+    held h.0 h.1 h.2 h.4,
+    h.3,
+    by_keeper fault h.1.keeper (subst (λ (t : Option Lists). IfSome first.stores (λ told. is_some t ≡ true)) h.4 (held h.0 h.1 h.2 h.4).tells) h.3 is,
+    h.5,
+    h.6,
+  )
   stopped_keeper all.Output h is = absurd (differ is)
     where
       differ : serving.Output ≡ serving.Keeper → ⊥

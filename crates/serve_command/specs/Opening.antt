@@ -1,5 +1,5 @@
 -- What comes of opening a store.
-use Rattle.std.specs.Prelude.{◌≡◌, ℕ, List, [], ◌∷◌, None, IfSome}
+use Rattle.std.specs.Prelude.{◌≡◌, ℕ, List, [], ◌∷◌, Some, None, IfSome}
 use Rattle.book_rules.specs.Good.{bad_row}
 use Rattle.book_rules.specs.History.{Base}
 use Rattle.book_rules.specs.declared.events.Entry.{Entry}
@@ -17,11 +17,12 @@ use Rattle.serve_command.specs.Shelves.{Shelves, AllIsBack}
 use Rattle.serve_command.specs.declared.open.OpenStop.{OpenStop}
 use Rattle.serve_command.specs.declared.open.OpenStop.TheVariants as stop
 
--- a book opened over the store of this name: it has no entry, and its keeper is lent
+-- a book opened over the store of this name: it has no entry, and its keeper is lent, which tells its tables where the stores are told
 pub record Opened (limits : Limits) (name : List ℕ) (old new : Shelves) (base : Base) (history : List Entry) : Type 0 where
   pub fresh : history ≡ []
   pub limited : base.limits ≡ limits
   pub opening : IfSome old.stores (λ told. base.opening ≡ store_of name told)
+  pub tells : IfSome old.stores (λ told. base.start.tables ≡ Some (store_of name told))
   pub good : bad_row base.opening ≡ None
   pub lent : new ≡ record old { keepers_out = name ∷ old.keepers_out }
 

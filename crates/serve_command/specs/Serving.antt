@@ -1,5 +1,5 @@
 -- What serving a store over lanes comes to.
-use Rattle.std.specs.Prelude.{◌≡◌, ◌⊎◌, ℕ, true, false, List, [], ◌∷◌, ◌++◌, length, Option, Some, None, IfSome, ⊤}
+use Rattle.std.specs.Prelude.{◌≡◌, ◌⊎◌, ℕ, true, false, List, [], ◌∷◌, ◌++◌, length, Option, Some, None, IfSome, is_some}
 use Rattle.std.specs.List.{list_any}
 use Rattle.std.specs.Io.KnownBytes.{Appends}
 use Rattle.backend_core.specs.Exchanges.{gained}
@@ -18,6 +18,7 @@ use Rattle.outside_core.specs.Stores.{IsUnused, store_of, stored}
 use Rattle.outside_core.specs.Told.{LaneTold}
 use Rattle.session_chain.specs.Chains.{Chain, HeldSession, lines_of}
 use Rattle.session_chain.specs.Ends.{wants_memory, has_port_fault, has_next}
+use Rattle.session_chain.specs.Served.{NextFails}
 use Rattle.serve_command.specs.Ends.{bad_store_line}
 use Rattle.serve_command.specs.Shelves.{Shelves}
 
@@ -36,9 +37,11 @@ pub record Held (limits : Limits) (name : List ℕ) (number : ℕ) (old new : Sh
   pub returned : new.returned ≡ gained_all old.returned back
   -- the sessions followed each other over them, and their histories were handed on;
   pub chain : Chain limits base lent back old.sessions new.sessions full last
-  -- and the keeper was given back with the tables of the last history, so that they are the store's.
+  -- and the keeper was given back with the tables of the last history, which it tells where the stores are told, so that they are the
+  -- store's.
   pub kept_back : new.kept_back ≡ gained old.kept_back keeper
   pub tables : keeper.tables ≡ last.keeper.tables
+  pub tells : IfSome old.stores (λ told. is_some keeper.tables ≡ true)
   pub stored : new.stores ≡ stored name keeper.tables old.stores
 
 -- no session was held
@@ -64,19 +67,20 @@ Ends limits name number old new written now status =
     × (status ≡ 0) × Appends written now (lines_of (full ++ last ∷ [])))
     ⊎ ((table : Table) × (row : ℕ) × IsBadStore name old new table row × NotHeld old new × (status ≡ 1) × Appends written now (bad_store_line table row))
 
--- the keeper is why a next book did not start; a load that failed has its count
+-- the keeper is why a next book did not start: a row is bad only where the outside does not tell its stores, and a load that failed has its
+-- count
 abbrev pub IsByKeeper : Shelves → Shelves → StartFault → Type 0
-IsByKeeper old new (BadStore table row) = ⊤
+IsByKeeper old new (BadStore table row) = old.stores ≡ None
 IsByKeeper old new StoreFault = Rose old.faults new.faults
 IsByKeeper old new Memory = ⊥
 
 -- The keeper could not be had or did not load, of which an outside's count tells; or the last session has a next one, and its book did
--- not start over the keeper, behind whose lines nothing was written.
+-- not start over the keeper, behind whose lines nothing was written. So where the outside tells its stores, its count rose in any case.
 abbrev pub KeeperFails : Limits → List ℕ → ℕ → Shelves → Shelves → Option (List ℕ) → Option (List ℕ) → Type 0
 KeeperFails limits name number old new written now =
     (Rose old.faults new.faults × NotHeld old new × (now ≡ written))
     ⊎ ((full : List HeldSession) × (last : HeldSession) × (keeper : KeeperFacts) × (fault : StartFault) × Held limits name number old new full last keeper
-    × StartFails last.keeper fault keeper × IsByKeeper old new fault × (has_next last.ends last.history ≡ true) × Appends written now (lines_of (full ++ last ∷ [])))
+    × NextFails last.keeper fault keeper × IsByKeeper old new fault × (has_next last.ends last.history ≡ true) × Appends written now (lines_of (full ++ last ∷ [])))
 
 -- A look failed, of which an outside's count tells: none for lanes at all, and then nothing was written; or one on a lane of the last
 -- session, behind which the lines were written.

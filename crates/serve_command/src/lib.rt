@@ -12,7 +12,7 @@
 //! | a lane ends since the session is full, in whose history a Shutdown stands | that line | `Ok(0)` |
 //! | a row of the store is none that a book starts from | `refused BadStore(TABLE,ROW)` | `Ok(1)` |
 //! | the store's keeper can't be had, or its load fails | nothing | `Err(Keeper)` |
-//! | a next session does not start over the keeper | the lines so far | `Err(Keeper)` |
+//! | a next session does not start over the keeper, whose load fails, or which does not tell its tables | the lines so far | `Err(Keeper)` |
 //! | the lanes can't be had | nothing | `Err(Port)` |
 //! | a look for a connection fails on a lane | the lines so far | `Err(Port)` |
 //! | memory is wanting on a lane | the lines so far | `Err(Memory)` |
@@ -22,9 +22,10 @@
 //! one begins with the tables that the history before left, over the lanes as they then stood. Each session but the last has a next one.
 //! Every history was handed on; the keeper was given back with the tables of the last, so that the store has them, and the
 //! entries of a session that it did not keep are at most the faults that it counted. The lines are those of the histories. A fault has its
-//! count, the outside's or the output's, or the bad row as its cause. All that was lent is given back, whatever comes (`AllIsBack`).
+//! count, the outside's or the output's, or the bad row as its cause; where the outside tells its stores, `Err(Keeper)` comes only where its
+//! count rose, since a session leaves no row that a next one refuses. All that was lent is given back, whatever comes (`AllIsBack`).
 //!
-//! Left out: that a keeper which told its tables tells them still at the end; that the sessions come to an end. Since another session
+//! Left out: that the sessions come to an end. Since another session
 //! follows a full one, no status tells that a session was full.
 #![tactic(auto)]
 

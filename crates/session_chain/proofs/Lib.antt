@@ -1,4 +1,5 @@
 mod Fronts
 mod Going
+mod Nexts
 mod Quiet
 mod Turning

@@ -1,12 +1,14 @@
 -- What serving all sessions comes to.
-use Rattle.std.specs.Prelude.{◌≡◌, ℕ, true, false, List, [], ◌∷◌, ◌++◌, ⊤, Option}
+use Rattle.std.specs.Prelude.{◌≡◌, ℕ, true, false, List, [], ◌∷◌, ◌++◌, ⊤, Option, None}
 use Rattle.std.specs.Io.KnownBytes.{Appends}
-use Rattle.book_core.specs.Starts.{StartFails}
+use Rattle.book_core.specs.Starts.{IsNamed}
 use Rattle.book_core.specs.declared.start.StartFault.{StartFault}
+use Rattle.book_core.specs.declared.start.StartFault.TheVariants as start
 use Rattle.book_rules.specs.History.{Base}
 use Rattle.book_rules.specs.declared.events.Entry.{Entry}
 use Rattle.book_rules.specs.declared.events.Limits.{Limits}
 use Rattle.gate_walk.specs.declared.ended.LaneEnd.{LaneEnd}
+use Rattle.gw_base.specs.Outside.{Rose}
 use Rattle.gw_base.specs.Whole.{AppendsFront}
 use Rattle.keeper_core.specs.Keeping.{KeeperFacts}
 use Rattle.outside_core.specs.Told.{LaneTold}
@@ -30,11 +32,18 @@ HasEnded limits base a keeper ends =
     (full : List HeldSession) × (last : HeldSession) × Chain limits base a.lent a.back a.archived a.archive full last
     × (last.keeper ≡ keeper) × (last.ends ≡ ends) × (has_next last.ends last.history ≡ false) × Appends a.written a.now (lines_of (full ++ last ∷ []))
 
+-- Why a next book did not start, and what the keeper shows that is handed back: a row is bad only of tables that the keeper does not tell,
+-- since those of a history are good.
+abbrev pub NextFails : KeeperFacts → StartFault → KeeperFacts → Type 0
+NextFails before (start.BadStore table row) now = (before.tables ≡ None) × IsNamed None before table row now
+NextFails before start.StoreFault now = Rose before.loads now.loads
+NextFails before start.Memory now = ⊤
+
 -- The last session has a next one, whose start was refused; the keeper has the tables that it had behind the last.
 abbrev pub IsRefused : Limits → Base → Around → KeeperFacts → StartFault → Type 0
 IsRefused limits base a keeper fault =
     (full : List HeldSession) × (last : HeldSession) × Chain limits base a.lent a.back a.archived a.archive full last
-    × StartFails last.keeper fault keeper × (keeper.tables ≡ last.keeper.tables) × (has_next last.ends last.history ≡ true) × Appends a.written a.now (lines_of (full ++ last ∷ []))
+    × NextFails last.keeper fault keeper × (keeper.tables ≡ last.keeper.tables) × (has_next last.ends last.history ≡ true) × Appends a.written a.now (lines_of (full ++ last ∷ []))
 
 -- The line of the last session was not written whole.
 abbrev pub WasCut : Limits → Base → Around → KeeperFacts → Type 0

@@ -22,10 +22,10 @@
 //! What is promised, whatever the threads do (`specs/Chains.antt`, `specs/Served.antt`): each session is one as `gate_session` says it,
 //! over the lanes as the one before left them, and its book begins with the tables that the history before left, where the keeper tells
 //! them. Each but the last has a next one exactly by the table. The line of each is written and its history handed on, in their order. Want
-//! of memory alone has no cause.
+//! of memory alone has no cause. A next book is never refused for a bad row of tables that the keeper tells: those that a history leaves
+//! are good.
 //!
-//! Left out: that the sessions come to an end; that a next book over a keeper which tells its tables is never refused for a bad row of
-//! them. Connections that come to a lane whose session is full are answered by the next session, but for the one that found it full.
+//! Left out: that the sessions come to an end. Connections that come to a lane whose session is full are answered by the next session, but for the one that found it full.
 #![tactic(auto)]
 
 mod all;

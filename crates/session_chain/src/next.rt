@@ -1,8 +1,9 @@
 // The next session of a keeper.
 ghost use Rattle.std.specs.Prelude.{◌≡◌, [], IfOk, IfErr, IfSome};
 ghost use Rattle.book_core.specs.Books.{Keeps};
-ghost use Rattle.book_core.specs.Starts.{StartFails, FailsAt, is_failed_start};
+ghost use Rattle.book_core.specs.Starts.{FailsAt, is_failed_start};
 ghost use Rattle.session_chain.specs.Chains.{Begins};
+ghost use Rattle.session_chain.specs.Served.{NextFails};
 
 use book_core::{Book, StartFault};
 use book_rules::{Entry, Limits};
@@ -14,7 +15,8 @@ use std::alloc::Global;
 ///
 /// # Errors
 ///
-/// Hands the keeper back where the next book does not start, with the causes of [`Book::start`].
+/// Hands the keeper back where the next book does not start, with the causes of [`Book::start`]; but [`StartFault::BadStore`] comes of no
+/// keeper that tells its tables.
 pub fn next_session<K: Keeper>(
     alloc: Global,
     book: Book<K>,
@@ -28,8 +30,8 @@ pub fn next_session<K: Keeper>(
     ensures empty { IfOk result.1 (λ next. next.history ≡ []) }
     ensures keeper { IfOk result.1 (λ next. K.facts next.keeper ≡ next.base.start) }
 
-    // A refusal has its cause, and leaves the tables.
-    ensures refused { IfErr result.1 (λ e. StartFails (K.facts book.keeper) e.1 (K.facts e.0)) }
+    // A refusal has its cause, which is no bad row where the keeper tells its tables, and leaves the tables.
+    ensures refused { IfErr result.1 (λ e. NextFails (K.facts book.keeper) e.1 (K.facts e.0)) }
     ensures tables { IfErr result.1 (λ e. (K.facts e.0).tables ≡ (K.facts book.keeper).tables) }
     ensures staged { IfErr result.1 (λ e. (K.facts e.0).staged ≡ []) }
     ensures planned { FailsAt (K.facts book.keeper).planned (is_failed_start result.1) }

@@ -3,13 +3,12 @@ ghost use Rattle.std.specs.Prelude.{◌≡◌, [], Ok, Err, IfOk, IfErr, IsErrOf
 ghost use Rattle.std.specs.Io.KnownBytes.{Appends};
 ghost use Rattle.backend_core.specs.Exchanges.{gained};
 ghost use Rattle.book_core.specs.Books.{Keeps};
-ghost use Rattle.book_core.specs.Starts.{StartFails};
 ghost use Rattle.gate_session.specs.Line.{session_line as session_line_of};
 ghost use Rattle.gw_base.specs.Outside.{HasWriteCause};
 ghost use Rattle.gw_base.specs.Whole.{AppendsFront};
 ghost use Rattle.session_chain.specs.Chains.{Begins};
 ghost use Rattle.session_chain.specs.Ends.{stopped_by};
-ghost use Rattle.session_chain.specs.Served.{IfRefused};
+ghost use Rattle.session_chain.specs.Served.{IfRefused, NextFails};
 
 use crate::fault::AllFault;
 use crate::next::next_session;
@@ -56,7 +55,7 @@ pub(crate) fn follow<K: Keeper, A: Archive<Entry>>(
     ensures begun { IfOk result (λ next. Begins limits book.base book.history (K.facts book.keeper) next.base) }
     ensures empty { IfOk result (λ next. next.history ≡ []) }
     ensures handed_on { OnOk result (A.sessions archive.new ≡ gained (A.sessions archive.old) book.history) }
-    ensures refused { IfErr result (λ e. IfRefused e.1 (λ fault. StartFails (K.facts book.keeper) fault (K.facts e.0)
+    ensures refused { IfErr result (λ e. IfRefused e.1 (λ fault. NextFails (K.facts book.keeper) fault (K.facts e.0)
         × ((K.facts e.0).tables ≡ (K.facts book.keeper).tables) × (A.sessions archive.new ≡ gained (A.sessions archive.old) book.history))) }
     ensures output { IfErr result (λ e. e.1 ≡ AllFault.Output → ⊥) }
     ensures beside { A.beside archive.new ≡ A.beside archive.old }

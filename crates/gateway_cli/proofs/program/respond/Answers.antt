@@ -1,7 +1,7 @@
 use Rattle.std.proofs.Common.{◌≡◌, true, false, [], rules}
-use Rattle.gateway_cli.specs.Commands.{is_play}
+use Rattle.gateway_cli.specs.Commands.{is_play, help, usage, version}
 use Rattle.gateway_cli.proofs.Inputs.{of_any, of_each, if_ok_map, on_err_map}
-use Rattle.gateway_cli.proofs.ByCommand.{is_fixed, front_is, of_play, of_play_front, of_other, of_other_front, of_usage, of_usage_front, of_load, of_load_front, of_unloaded}
+use Rattle.gateway_cli.proofs.ByCommand.{is_fixed, front_is, of_play, of_play_front, of_other, of_other_front, of_text, of_text_front, of_load, of_load_front, of_unloaded}
 use Rattle.gateway_cli.proofs.program.respond.Goals as goal
 
 pub returns-in-Some-Play-clause-answered : goal.returns-in-Some-Play-clause-answered
@@ -55,16 +55,40 @@ returns-in-Some-Check-clause-loaded g c =
     λ e. of_unloaded (g.I.Source.left c.args.input.now) (g.O.Outside.files c.args.outside.now) c.args.command.now _ _ c.check.result _ e (of_other_front (g.I.Source.left c.args.input.now) (g.O.Outside.files c.args.outside.now) c.args.command.now _ _ c.check.result c.check.ensures.front (λ files. search rules) fixed) other
 
 pub returns-in_default-clause-answered : goal.returns-in_default-clause-answered
-returns-in_default-clause-answered g c = of_usage (g.I.Source.left c.args.input.now) (g.O.Outside.files c.args.outside.now) c.args.command.now _ _ c.say_usage.result c.say_usage.ensures.answered (λ files. search rules) (search rules)
+returns-in_default-clause-answered g c = of_text (g.I.Source.left c.args.input.now) (g.O.Outside.files c.args.outside.now) c.args.command.now _ _ c.say_usage.result usage c.say_usage.ensures.answered (λ files. search rules) (search rules)
 
 pub returns-in_default-clause-front : goal.returns-in_default-clause-front
-returns-in_default-clause-front g c = of_usage_front (g.I.Source.left c.args.input.now) (g.O.Outside.files c.args.outside.now) c.args.command.now _ _ c.say_usage.result c.say_usage.ensures.front (λ files. search rules) (search rules)
+returns-in_default-clause-front g c = of_text_front (g.I.Source.left c.args.input.now) (g.O.Outside.files c.args.outside.now) c.args.command.now _ _ c.say_usage.result usage c.say_usage.ensures.front (λ files. search rules) (search rules)
 
 pub returns-in_default-clause-loaded : goal.returns-in_default-clause-loaded
 returns-in_default-clause-loaded g c =
     let other : is_play c.args.command.now ≡ false = search rules in
     let fixed : is_fixed c.args.command.now ≡ true = search rules in
-    λ e. of_unloaded (g.I.Source.left c.args.input.now) (g.O.Outside.files c.args.outside.now) c.args.command.now _ _ c.say_usage.result _ e (of_usage_front (g.I.Source.left c.args.input.now) (g.O.Outside.files c.args.outside.now) c.args.command.now _ _ c.say_usage.result c.say_usage.ensures.front (λ files. search rules) fixed) other
+    λ e. of_unloaded (g.I.Source.left c.args.input.now) (g.O.Outside.files c.args.outside.now) c.args.command.now _ _ c.say_usage.result _ e (of_text_front (g.I.Source.left c.args.input.now) (g.O.Outside.files c.args.outside.now) c.args.command.now _ _ c.say_usage.result usage c.say_usage.ensures.front (λ files. search rules) fixed) other
+
+pub returns-in-Some-Help-clause-answered : goal.returns-in-Some-Help-clause-answered
+returns-in-Some-Help-clause-answered g c = of_text (g.I.Source.left c.args.input.now) (g.O.Outside.files c.args.outside.now) c.args.command.now _ _ c.say_help.result help c.say_help.ensures.answered (λ files. search rules) (search rules)
+
+pub returns-in-Some-Help-clause-front : goal.returns-in-Some-Help-clause-front
+returns-in-Some-Help-clause-front g c = of_text_front (g.I.Source.left c.args.input.now) (g.O.Outside.files c.args.outside.now) c.args.command.now _ _ c.say_help.result help c.say_help.ensures.front (λ files. search rules) (search rules)
+
+pub returns-in-Some-Help-clause-loaded : goal.returns-in-Some-Help-clause-loaded
+returns-in-Some-Help-clause-loaded g c =
+    let other : is_play c.args.command.now ≡ false = search rules in
+    let fixed : is_fixed c.args.command.now ≡ true = search rules in
+    λ e. of_unloaded (g.I.Source.left c.args.input.now) (g.O.Outside.files c.args.outside.now) c.args.command.now _ _ c.say_help.result _ e (of_text_front (g.I.Source.left c.args.input.now) (g.O.Outside.files c.args.outside.now) c.args.command.now _ _ c.say_help.result help c.say_help.ensures.front (λ files. search rules) fixed) other
+
+pub returns-in-Some-Version-clause-answered : goal.returns-in-Some-Version-clause-answered
+returns-in-Some-Version-clause-answered g c = of_text (g.I.Source.left c.args.input.now) (g.O.Outside.files c.args.outside.now) c.args.command.now _ _ c.say_version.result version c.say_version.ensures.answered (λ files. search rules) (search rules)
+
+pub returns-in-Some-Version-clause-front : goal.returns-in-Some-Version-clause-front
+returns-in-Some-Version-clause-front g c = of_text_front (g.I.Source.left c.args.input.now) (g.O.Outside.files c.args.outside.now) c.args.command.now _ _ c.say_version.result version c.say_version.ensures.front (λ files. search rules) (search rules)
+
+pub returns-in-Some-Version-clause-loaded : goal.returns-in-Some-Version-clause-loaded
+returns-in-Some-Version-clause-loaded g c =
+    let other : is_play c.args.command.now ≡ false = search rules in
+    let fixed : is_fixed c.args.command.now ≡ true = search rules in
+    λ e. of_unloaded (g.I.Source.left c.args.input.now) (g.O.Outside.files c.args.outside.now) c.args.command.now _ _ c.say_version.result _ e (of_text_front (g.I.Source.left c.args.input.now) (g.O.Outside.files c.args.outside.now) c.args.command.now _ _ c.say_version.result version c.say_version.ensures.front (λ files. search rules) fixed) other
 
 pub returns-in-Some-Load-clause-answered : goal.returns-in-Some-Load-clause-answered
 returns-in-Some-Load-clause-answered g c = of_load (g.I.Source.left c.args.input.now) (g.O.Outside.files c.args.outside.now) c.args.command.now _ _ _ _ c.load.result (search rules) c.load.ensures.answered

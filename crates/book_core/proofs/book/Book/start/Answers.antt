@@ -8,7 +8,7 @@ use Rattle.book_core.specs.Books.{counts_of}
 use Rattle.book_core.proofs.Counted.{counts_of-none}
 use Rattle.fit_rows.proofs.Fitting.{opens_fit}
 use Rattle.book_core.specs.Starts.{StartFails, FailsAt, is_store_fault}
-use Rattle.book_core.proofs.Starting.{by_load, fails_by, keeps_first, remembers_first, stands_first, stands_happened}
+use Rattle.book_core.proofs.Starting.{by_load, fails_by, keeps_first, remembers_first, stands_first, stands_happened, stated_first}
 use Rattle.book_core.specs.Standing.{standing}
 use Rattle.book_core.proofs.book.Book.start.Goals as goal
 
@@ -29,6 +29,8 @@ invariant_of-result g c =
     let lists : c.in-Ok-stand.current.tables.lists ≡ c.in-Ok.tables.lists = ap (λ s. s.lists) c.in-Ok-stand.ensures.stands in
     record {
       good = c.in-Ok-open.ensures.good;
+      order = c.are_in_order.ensures;
+      stated = stated_first c.in-Ok-stand.history.items c.in-Ok-stand.ensures.empty;
       stands = ap (λ h. standing h c.in-Ok-stand.current) (sym (stands_happened base.opening c.in-Ok-stand.history.items c.in-Ok-stand.ensures.empty))
           ∙ c.in-Ok-stand.ensures.stands ∙ stands_first base.opening c.in-Ok-stand.history.items c.in-Ok-stand.ensures.empty;
       remembers = remembers_first base.opening c.in-Ok-stand.history.items c.in-Ok-stand.current.policies c.in-Ok-stand.ensures.empty c.in-Ok-stand.ensures.remembers;

@@ -17,7 +17,7 @@ use Rattle.book_core.proofs.Counted.{AreFew, counts_at, counts_of-more, few_of}
 use Rattle.fit_rows.proofs.FitsAfter.{fits_after}
 use Rattle.book_core.specs.Keeps.{Went}
 use Rattle.book_core.specs.Standing.{standing}
-use Rattle.book_core.proofs.Stepping.{keeps_more, answers_at, remembers_more}
+use Rattle.book_core.proofs.Stepping.{keeps_more, answers_at, remembers_more, stated_more}
 use Rattle.book_core.proofs.Stores.{rose}
 use Rattle.book_core.proofs.book.Book.step.Goals as goal
 
@@ -38,6 +38,8 @@ invariant_of-self-2 g c =
     ap (λ s. happened_behind s c.args.event) c.self.invariant.stands ∙ ap (λ s. s.happened) (sym (state_after-more base.opening history entry)) ∙ ap (happened_after base.opening) (sym items) in
     record {
       good = c.self.invariant.good;
+      order = c.self.invariant.order;
+      stated = stated_more history entry c.push.new.self.items items c.self.invariant.stated c.check_stated.ensures;
       stands = ap (λ h. standing h c.take-taken.new.current) (sym behind)
           ∙ c.in-Ok.ensures.stands happened c.args.seat ∙ ap (λ s. after s entry) c.self.invariant.stands
           ∙ sym (state_after-more base.opening history entry) ∙ ap (state_after base.opening) (sym items);
@@ -151,6 +153,8 @@ invariant_of-self g c =
     let e = c.in_default.ensures in
     record {
       good = v.good;
+      order = v.order;
+      stated = v.stated;
       stands = e.err happened ∙ v.stands;
       remembers = subst (λ k. Remembers happened (length c.self.inside.history.items) k) (sym e.unchanged) v.remembers;
       ready = e.ready;

@@ -1,6 +1,5 @@
 -- Sessions that were held so far, and one more.
 use Rattle.std.proofs.Common.{◌≡◌, ℕ, Bool, true, false, not, ◌&&◌, List, [], ◌∷◌, ◌++◌, Option, Some, None, ap, sym, ◌∙◌, subst, refl, append-nil, append_assoc}
-use Rattle.std.specs.Prelude.{is_some}
 use Rattle.std.specs.Io.KnownBytes.{Appends}
 use Rattle.std.proofs.KnownBytes.{Appends-nil, Appends-trans}
 use Rattle.std.proofs.lemmas.List.{flat_map_more, map-append}
@@ -76,17 +75,6 @@ module _ (limits : Limits) (base : Base) (lent : List LaneTold) (archived : Opti
 
   pub lines_cut : AppendsFront now now' (session_line s.base.opening s.history) → AppendsFront written now' (lines_of (full ++ s ∷ []))
   lines_cut line = subst (AppendsFront written now') (lines_more full s) (cut_second written now now' (lines_of full) (session_line s.base.opening s.history) going.lines line)
-
--- a keeper that told its tables at first tells them behind the last session
-lead_tells : (limits : Limits) (base : Base) (lanes : List LaneTold) (full : List HeldSession) (next : Base) (rest : List LaneTold) → Lead limits base lanes full next rest
-    → is_some next.start.tables ≡ is_some base.start.tables
-lead_tells limits base lanes [] next rest l = ap (λ (b : Base). is_some b.start.tables) l.0
-lead_tells limits base lanes (s ∷ more) next rest l =
-    lead_tells limits l.4.0 s.now more next rest l.4.2 ∙ ap is_some l.4.1.started.tables ∙ l.2.keeps.tells ∙ ap (λ (b : Base). is_some b.start.tables) l.0
-
-pub chain_tells : (limits : Limits) (base : Base) (lent back : List LaneTold) (archived archive : Option (List (List Entry))) (full : List HeldSession) (last : HeldSession)
-    → Chain limits base lent back archived archive full last → is_some last.keeper.tables ≡ is_some base.start.tables
-chain_tells limits base lent back archived archive full last chain = chain.held.keeps.tells ∙ lead_tells limits base lent full last.base last.before chain.lead
 
 -- a session that has a next one: no Shutdown stands in its history
 pub none_shuts : (ends : List LaneEnd) (history : List Entry) → has_next ends history ≡ true → list_any shuts_at history ≡ false
